@@ -9,11 +9,16 @@ use lib.IntN.{ℤ}
 use lib.Dec.{eqb}
 use lib.ListN.{length}
 use borrow.Author.Tests.{eqb-false, ne-eqb, ltb-false, lt-ltb}
-use Rattle.paper.specs.Cell.{Symbol, regional, internal, Word, symbolOf, withLink, withSymbol, Cell, free, word, integer, process, isFree, isWord, isInteger, wordIn, integerIn, endOfRegions, reservedIn, nameIn, isHW, H, State, withCells}
-use Rattle.paper.specs.Act.{Act, done, refused, _>>=_, _>>_, choose, peek, put, reserved, nameOf, own, sized, touch, wordAt, integerAt, notOwn, named, readAt, takeAs, release, linkBelow, hasBelow, pullUp, preserve, restore, store, ownStore, ownPreserve, ownRestore, push, pop, below, pops, gives, symbolIn, symbolInThat, designate, NoFreeCell, primOpen, actOpen}
+use Rattle.paper.specs.Cell.{Symbol, regional, internal, Word, symbolOf, withLink, withSymbol, Cell, free, word, integer, process, isFree}
+use Rattle.paper.specs.Cell.{isWord, isInteger, wordIn, integerIn, endOfRegions, reservedIn, nameIn, isHW, H, State, withCells}
+use Rattle.paper.specs.Act.{Act, done, refused, _>>=_, _>>_, peek, put, reserved, nameOf, own, sized, touch, wordAt, integerAt, notOwn, named}
+use Rattle.paper.specs.Act.{readAt, takeAs, release, linkBelow, hasBelow, pullUp, preserve, restore, store, ownStore, ownPreserve, ownRestore}
+use Rattle.paper.specs.Act.{push, pop, below, pops, gives, symbolIn, symbolInThat, designate, NoFreeCell, primOpen, actOpen}
 use Rattle.paper.specs.Walk.{member}
 use Rattle.paper.proofs.Safe.{After, Safe, Any, bind, seq, weaken, safe-ret, safe-ret-at, safe-refuseIf, safe-first, safe-last}
-use Rattle.paper.proofs.SoundStore.{Frame, at, Chain, SymbolOk, WordOk, FreeOk, IntegerOk, ProcessOk, CellOk, Sound, Used, never, or-false, front, Front, used-below, its, put-sound, put-used, took, gave, took-sound, took-used, took-new, new-free, gave-sound, gave-used}
+use Rattle.paper.proofs.SoundStore.{Frame, at, Chain, SymbolOk, WordOk, FreeOk, IntegerOk, CellOk, Sound, Used, never, or-false, front, Front}
+use Rattle.paper.proofs.SoundStore.{used-below, its, put-sound, put-used, took, gave, took-sound, took-used, took-new, new-free, gave-sound}
+use Rattle.paper.proofs.SoundStore.{gave-used}
 
 abbrev pub All : (ℕ → Type 0) → List ℕ → Type 0
 All P [] = Unit {0}
@@ -104,7 +109,8 @@ none-left : (x : Cell) (s : State) (h : Word) → at s 3 ≡ word h → eqb (h .
 unfolding primOpen actOpen
 none-left x s h e b = rw (e, b, _>>=_, _>>_)
 
-takes : (x : Cell) (s : State) (h : Word) (l : ℕ) → at s 3 ≡ word h → eqb (h .link) 0 ≡ false → at s (h .link) ≡ free l → takeAs x s ≡ done (h .link) (withCells s (took (s .cells) h l x))
+takes : (x : Cell) (s : State) (h : Word) (l : ℕ) → at s 3 ≡ word h → eqb (h .link) 0 ≡ false → at s (h .link) ≡ free l → takeAs x s ≡ done (h .link)
+    (withCells s (took (s .cells) h l x))
 unfolding primOpen actOpen
 takes x s h l e b f = rw (e, b, e, f, _>>=_, _>>_)
 
@@ -131,7 +137,18 @@ module _ {F : Frame} where
 
   -- a word may stand in any cell that is no H, W or J cell
   pub moved : {c : ℕ} {w : Word} → WordOk F c w → Fills F (word w)
-  moved k = record { fits = λ c b. record { p≤7 = k .p≤7; q≤4 = k .q≤4; q≢3 = k .q≢3; q≢1 = λ e. absurd (omega arith); symb< = k .symb<; link< = k .link<; noJ = λ _. b }; kept = refl }
+  moved k = record {
+    fits = λ c b. record {
+      p≤7 = k .p≤7;
+      q≤4 = k .q≤4;
+      q≢3 = k .q≢3;
+      q≢1 = λ e. absurd (omega arith);
+      symb< = k .symb<;
+      link< = k .link<;
+      noJ = λ _. b;
+    };
+    kept = refl;
+  }
 
   pub tagged : (t c : ℕ) → t ≤ 4 → t ≢ 3 → t ≢ 1 → c < F .n → SymbolOk F (record { tag = t; num = c })
   tagged t c a b d e = record { tag≤4 = a; tag≢3 = b; tag≢1 = d; num< = e }
@@ -159,7 +176,8 @@ module _ {F : Frame} where
   unfolding own
   s-own c b = record { at = λ s i. let o = its F c (i .sound) b in (i, subst (λ x. WordOk F c (wordIn x)) (sym (o .is)) (o .good)) }
 
-  pub s-sized : {us : List ℕ} {A : Type 0} {P : A → Type 0} {K : A → State → Type 0} (f : ℕ → Act A) → ((n : ℕ) → Safe (Ok F us) P K (f n)) → Safe (Ok F us) P K (sized f)
+  pub s-sized : {us : List ℕ} {A : Type 0} {P : A → Type 0} {K : A → State → Type 0} (f : ℕ → Act A) → ((n : ℕ) → Safe (Ok F us) P K (f n)) → Safe
+      (Ok F us) P K (sized f)
   unfolding sized
   s-sized f h = record { at = λ s i. h (length (s .cells)) .at s i }
 
@@ -186,11 +204,13 @@ module _ {F : Frame} where
 
   pub s-wordAt : {us : List ℕ} (c : ℕ) → Safe (Ok F us) (Here F c) (λ _. Ok F (c ∷ us)) (wordAt c)
   unfolding wordAt
-  s-wordAt c = bind (s-touch c) λ x h. seq (safe-refuseIf _ _) λ _ e. safe-ret _ (record { nonzero = h .nonzero; below = h .below; good = a-word c x e (h .holds) }) (λ s i. i)
+  s-wordAt c = bind (s-touch c) λ x h. seq (safe-refuseIf _ _) λ _ e. safe-ret _
+      (record { nonzero = h .nonzero; below = h .below; good = a-word c x e (h .holds) }) (λ s i. i)
 
   pub s-integerAt : {us : List ℕ} (c : ℕ) → Safe (Ok F us) (Integer F c) (λ _. Ok F (c ∷ us)) (integerAt c)
   unfolding integerAt
-  s-integerAt c = bind (s-touch c) λ x h. seq (safe-refuseIf _ _) λ _ e. safe-ret _ (record { below = h .below; good = an-integer F c x e (h .holds) }) (λ s i. i)
+  s-integerAt c = bind (s-touch c) λ x h. seq (safe-refuseIf _ _) λ _ e. safe-ret _
+      (record { below = h .below; good = an-integer F c x e (h .holds) }) (λ s i. i)
 
   pub s-notOwn : {us : List ℕ} (c : ℕ) → Safe (Ok F us) (λ _. (c ≢ 2) × (c ≢ 3)) (λ _. Ok F us) (notOwn c)
   unfolding notOwn
@@ -203,10 +223,12 @@ module _ {F : Frame} where
   -- a word whose symbol may be read
   pub s-readAt : {us : List ℕ} (c : ℕ) → Safe (Ok F us) (Readable F) (λ _. Ok F us) (readAt c)
   unfolding readAt
-  s-readAt c = bind (s-wordAt c) λ w h. seq (safe-refuseIf _ _) λ _ q. seq (s-notOwn c) λ _ o. safe-ret w (record { good = symbol-of (h .good) (eqb-false (w .q) 1 q); link< = h .good .link< }) fewer
+  s-readAt c = bind (s-wordAt c) λ w h. seq (safe-refuseIf _ _) λ _ q. seq (s-notOwn c) λ _ o. safe-ret w
+      (record { good = symbol-of (h .good) (eqb-false (w .q) 1 q); link< = h .good .link< }) fewer
 
   -- changing
-  pub s-put : {us : List ℕ} (c : ℕ) (x : Cell) → ((s : State) → Ok F us s → Used s c) → c ≢ 3 → CellOk F c x → isFree x ≡ false → Safe (Ok F us) Any (λ _. Ok F us) (put c x)
+  pub s-put : {us : List ℕ} (c : ℕ) (x : Cell) → ((s : State) → Ok F us s → Used s c) → c ≢ 3 → CellOk F c x → isFree x ≡ false → Safe (Ok F us) Any
+      (λ _. Ok F us) (put c x)
   unfolding put
   s-put {us} c x u h k f = record {
     at = λ s i.
@@ -214,39 +236,60 @@ module _ {F : Frame} where
         (record { sound = put-sound F s c x (i .sound) (u s i) h k f; used = all-map _ _ us (put-used F s c x b f) (i .used) }, tt);
   }
 
-  taken : {us : List ℕ} (x : Cell) (s : State) (i : Ok F us s) (h : Word) → at s 3 ≡ word h → Fills F x → (b : Bool) → eqb (h .link) 0 ≡ b → After (takeAs x s) (λ n t. Ok F (n ∷ us) t × New F us n)
+  taken : {us : List ℕ} (x : Cell) (s : State) (i : Ok F us s) (h : Word) → at s 3 ≡ word h → Fills F x → (b : Bool) → eqb (h .link) 0 ≡ b → After
+      (takeAs x s) (λ n t. Ok F (n ∷ us) t × New F us n)
   taken {us} x s i h e k true b = rw (none-left x s h e b) tt
   taken {us} x s i h e k false b =
       let c : Chain (s .cells) (h .link) (i .sound .frees) = subst (λ a. Chain (s .cells) (wordIn a .link) (i .sound .frees)) e (i .sound .chain) in
       let r : Front (s .cells) (h .link) (i .sound .frees) = front c (eqb-false (h .link) 0 b) in
       let t : FreeOk F (h .link) (r .l) = new-free F s h x (i .sound) e r in
       rw (takes x s h (r .l) e b (r .isFree)) (
-        record { sound = took-sound F s h x (i .sound) e r (k .fits (h .link) (omega (arith, t .notReserved, F .end≥))) (k .kept); used = (took-new F s h x (i .sound) e r (k .kept), all-map _ _ us (took-used F s h x (i .sound) e r (k .kept)) (i .used)) },
-        record { ours = record { below = rw (← (i .sound .size)) (r .below); notReserved = t .notReserved }; fresh = not-used s (h .link) us (ap isFree (r .isFree)) (i .used) },
+        record {
+          sound = took-sound F s h x (i .sound) e r (k .fits (h .link) (omega (arith, t .notReserved, F .end≥))) (k .kept);
+          used =
+              (took-new F s h x (i .sound) e r (k .kept), all-map _ _ us (took-used F s h x (i .sound) e r (k .kept)) (i .used));
+        },
+        record {
+          ours = record { below = rw (← (i .sound .size)) (r .below); notReserved = t .notReserved };
+          fresh = not-used s (h .link) us
+              (ap isFree (r .isFree)) (i .used);
+        },
       )
 
   pub s-takeAs : {us : List ℕ} (x : Cell) → Fills F x → Safe (Ok F us) (New F us) (λ n. Ok F (n ∷ us)) (takeAs x)
   s-takeAs x k = record { at = λ s i. let o = its F 3 (i .sound) (omega arith) in taken x s i (o .w) (o .is) k (eqb (o .w .link) 0) refl }
 
-  given : {us : List ℕ} (vs : List ℕ) (c : ℕ) (s : State) (i : Ok F us s) (h : Word) → at s 3 ≡ word h → Used s c → endOfRegions (F .rs) 221 ≤ c → All (λ k. (k ≢ c) × Used s k) vs → After (release c s) (λ n t. Ok F vs t × Unit {0})
-  given vs c s i h e u b k = rw (frees c s h e) (record { sound = gave-sound F s h c (i .sound) e u b; used = all-map _ _ vs (λ j p. gave-used F s h c (i .sound) e u b j (p .0) (p .1)) k }, tt)
+  given : {us : List ℕ} (vs : List ℕ) (c : ℕ) (s : State) (i : Ok F us s) (h : Word) → at s 3 ≡ word h → Used s c → endOfRegions (F .rs) 221 ≤ c
+      → All (λ k. (k ≢ c) × Used s k) vs → After (release c s) (λ n t. Ok F vs t × Unit {0})
+  given vs c s i h e u b k = rw (frees c s h e) (
+    record {
+      sound = gave-sound F s h c (i .sound) e u b;
+      used = all-map _ _ vs
+          (λ j p. gave-used F s h c (i .sound) e u b j (p .0) (p .1)) k;
+    },
+    tt,
+  )
 
   -- what else is in use stays so
-  pub s-releaseOne : {us : List ℕ} (vs : List ℕ) (c : ℕ) → ((s : State) → Ok F us s → Used s c) → endOfRegions (F .rs) 221 ≤ c → ((s : State) → Ok F us s → All (λ k. (k ≢ c) × Used s k) vs) → Safe (Ok F us) Any (λ _. Ok F vs) (release c)
+  pub s-releaseOne : {us : List ℕ} (vs : List ℕ) (c : ℕ) → ((s : State) → Ok F us s → Used s c) → endOfRegions (F .rs) 221 ≤ c →
+      ((s : State) → Ok F us s → All (λ k. (k ≢ c) × Used s k) vs) → Safe (Ok F us) Any (λ _. Ok F vs) (release c)
   s-releaseOne vs c u b k = record { at = λ s i. let o = its F 3 (i .sound) (omega arith) in given vs c s i (o .w) (o .is) (u s i) b (k s i) }
 
   pub s-release : {us : List ℕ} (c : ℕ) → ((s : State) → Ok F us s → Used s c) → endOfRegions (F .rs) 221 ≤ c → Safe (Ok F us) Any (λ _. Ok F []) (release c)
   s-release c u b = s-releaseOne [] c u b (λ _ _. tt)
 
-  pub s-linkBelow : {us : List ℕ} (c : ℕ) (w v : Word) → ((s : State) → Ok F us s → Used s c) → c ≢ 3 → WordOk F c w → Fills F (word v) → Safe (Ok F us) Any (λ _. Ok F us) (linkBelow c w v)
+  pub s-linkBelow : {us : List ℕ} (c : ℕ) (w v : Word) → ((s : State) → Ok F us s → Used s c) → c ≢ 3 → WordOk F c w → Fills F (word v) → Safe
+      (Ok F us) Any (λ _. Ok F us) (linkBelow c w v)
   unfolding linkBelow
-  s-linkBelow c w v u h k f = bind (s-takeAs (word v) f) λ n o. weaken (λ _ _. tt) (λ _ s _ i. fewer s i) (s-put c _ (λ s i. u s (fewer s i)) h (linked k (o .ours .below)) refl)
+  s-linkBelow c w v u h k f = bind (s-takeAs (word v) f) λ n o. weaken (λ _ _. tt) (λ _ s _ i. fewer s i)
+      (s-put c _ (λ s i. u s (fewer s i)) h (linked k (o .ours .below)) refl)
 
   pub s-hasBelow : {us : List ℕ} (c : ℕ) (w : Word) → Safe (Ok F us) (λ _. w .link ≢ 0) (λ _. Ok F us) (hasBelow c w)
   unfolding hasBelow
   s-hasBelow c w = seq (safe-refuseIf _ _) λ _ _. weaken (λ _ e. eqb-false (w .link) 0 e) (λ _ _ _ i. i) (safe-refuseIf _ _)
 
-  pub s-pullUp : {us : List ℕ} (c n : ℕ) → ((s : State) → Ok F us s → Used s c) → c ≢ 0 → c ≢ 3 → (21 ≤ c → 221 ≤ c) → Safe (Ok F us) Any (λ _. Ok F []) (pullUp c n)
+  pub s-pullUp : {us : List ℕ} (c n : ℕ) → ((s : State) → Ok F us s → Used s c) → c ≢ 0 → c ≢ 3 → (21 ≤ c → 221 ≤ c) → Safe (Ok F us) Any
+      (λ _. Ok F []) (pullUp c n)
   unfolding pullUp
   s-pullUp c n u z h j =
       bind (s-wordAt n) λ v k.

@@ -8,11 +8,13 @@ use Rattle.paper.specs.Cell.{Symbol, regional, Word, Cell, free, word, i
 use Rattle.paper.specs.Act.{Act, Res, done, refused, Refusal}
 use Rattle.paper.specs.declared.RunAnswer.the-variants.{Finished, Refused}
 use Rattle.paper.specs.Walk.{linkIn}
-use Rattle.paper.specs.Cycle.{Control, after, descend, popThen, performs, execute, executes, copyTo, putIn, goTo, branch, operate, toLink, advance, obey, direct, interpret, linkOf, ascend, cycle}
+use Rattle.paper.specs.Cycle.{Control, after, descend, popThen, performs, execute, executes, copyTo, putIn, goTo, branch, operate, toLink}
+use Rattle.paper.specs.Cycle.{advance, obey, direct, interpret, linkOf, ascend, cycle}
 use Rattle.paper.specs.Run.{isFinished, outcome, Turn, finishes, stops, continues, afterCycle, turn, onTurn, runFrom}
 use Rattle.paper.proofs.Safe.{After, Safe, Any, bind, seq, start, safe-ret, safe-refuse, safe-refuseIf, safe-ifThen, safe-first, safe-last}
 use Rattle.paper.proofs.SoundStore.{Frame, SymbolOk, WordOk, CellOk, Sound, never}
-use Rattle.paper.proofs.ActLaws.{Ok, forget, fewer, as-regional, s-nameOf, s-own, s-sized, s-touch, s-notOwn, s-preserve, s-restore, s-store, s-ownStore, s-ownPreserve, s-ownRestore, s-push, s-pop, s-top, s-designate}
+use Rattle.paper.proofs.ActLaws.{Ok, forget, fewer, as-regional, s-nameOf, s-own, s-sized, s-touch, s-notOwn, s-preserve, s-restore, s-store}
+use Rattle.paper.proofs.ActLaws.{s-ownStore, s-ownPreserve, s-ownRestore, s-push, s-pop, s-top, s-designate}
 use Rattle.paper.proofs.ProcessLaws.{s-perform, 0<}
 
 -- a cell that is touched and neither an integer nor a process is a word
@@ -31,20 +33,23 @@ link-below F c process h = 0< F
 module _ {F : Frame} where
   s-descend : {us : List ℕ} (x : Symbol) → SymbolOk F x → Safe (Ok F us) Any (λ _. Ok F []) (descend x)
   unfolding descend
-  s-descend x y = seq (s-ownPreserve 2 (omega arith) (omega arith) (omega arith)) λ _ _. seq (s-ownStore 2 x (omega arith) (omega arith) (omega arith) y) λ _ _. safe-ret _ tt forget
+  s-descend x y = seq (s-ownPreserve 2 (omega arith) (omega arith) (omega arith)) λ _ _. seq
+      (s-ownStore 2 x (omega arith) (omega arith) (omega arith) y) λ _ _. safe-ret _ tt forget
 
   s-after : {us vs : List ℕ} (m : Act (Unit {0})) → Safe (Ok F us) Any (λ _. Ok F vs) m → Safe (Ok F us) Any (λ _. Ok F []) (after m)
   unfolding after
   s-after m h = seq h λ _ _. safe-ret _ tt forget
 
-  s-performs : {us : List ℕ} (again : Symbol → Act Control) → ((y : Symbol) → SymbolOk F y → Safe (Ok F []) Any (λ _. Ok F []) (again y)) → (c : ℕ) → Safe (Ok F us) Any (λ _. Ok F []) (performs again c)
+  s-performs : {us : List ℕ} (again : Symbol → Act Control) → ((y : Symbol) → SymbolOk F y → Safe (Ok F []) Any (λ _. Ok F []) (again y)) → (c : ℕ)
+      → Safe (Ok F us) Any (λ _. Ok F []) (performs again c)
   unfolding performs popThen
   s-performs again h c = safe-ifThen _ (λ _. bind s-top λ w0 k. seq s-pop λ _ _. h _ (k .good)) (λ _. s-after _ (s-perform _))
 
   s-execute : (n : ℕ) {us : List ℕ} (x : Symbol) → SymbolOk F x → Safe (Ok F us) Any (λ _. Ok F []) (execute n x)
   unfolding execute
   s-execute zero x y = safe-refuse _
-  s-execute (suc n) x y = bind (s-touch (x .num)) λ _ _. seq (s-notOwn (x .num)) λ _ _. safe-ifThen _ (λ _. s-performs _ (λ v w. s-execute n v w) _) (λ _. s-descend x y)
+  s-execute (suc n) x y = bind (s-touch (x .num)) λ _ _. seq (s-notOwn (x .num)) λ _ _. safe-ifThen _ (λ _. s-performs _ (λ v w. s-execute n v w) _)
+      (λ _. s-descend x y)
 
   s-executes : {us : List ℕ} (x : Symbol) → SymbolOk F x → Safe (Ok F us) Any (λ _. Ok F []) (executes x)
   unfolding executes
@@ -98,7 +103,8 @@ module _ {F : Frame} where
 
   s-interpret : {us : List ℕ} (c : ℕ) → Safe (Ok F us) Any (λ _. Ok F []) (interpret c)
   unfolding interpret
-  s-interpret c = bind (s-touch c) λ x h. seq (safe-refuseIf _ _) λ _ e. safe-ifThen _ (λ _. s-direct c (h .below)) (λ p. s-obey c (wordIn x) (the-word F c x e p (h .kept) (h .holds)))
+  s-interpret c = bind (s-touch c) λ x h. seq (safe-refuseIf _ _) λ _ e. safe-ifThen _ (λ _. s-direct c (h .below))
+      (λ p. s-obey c (wordIn x) (the-word F c x e p (h .kept) (h .holds)))
 
   s-linkOf : {us : List ℕ} (c : ℕ) → Safe (Ok F us) (λ l. l < F .n) (λ _. Ok F us) (linkOf c)
   unfolding linkOf
@@ -106,7 +112,8 @@ module _ {F : Frame} where
 
   s-ascend : {us : List ℕ} → Safe (Ok F us) Any (λ _. Ok F []) ascend
   unfolding ascend
-  s-ascend = seq (s-ownRestore 2 (omega arith) (omega arith) (omega arith)) λ _ _. bind (s-own 2 (omega arith)) λ h _. bind (s-linkOf (h .symb)) λ l b. s-toLink l b
+  s-ascend = seq (s-ownRestore 2 (omega arith) (omega arith) (omega arith)) λ _ _. bind (s-own 2 (omega arith)) λ h _. bind (s-linkOf (h .symb))
+      λ l b. s-toLink l b
 
   pub s-cycle : {us : List ℕ} → Safe (Ok F us) Any (λ _. Ok F []) cycle
   unfolding cycle
@@ -145,7 +152,8 @@ unfolding runFrom onTurn
 run-sound F zero n s i = i
 run-sound F (suc left) n s i = go (turn s) (turn-sound F s i) (λ t h. run-sound F left (suc n) t h)
   where
-    go : (t : Turn) → TurnOk F t → ((t : State) → Sound F t → Sound F (runFrom left (suc n) t .state)) → Sound F (onTurn t (outcome Finished n s) (λ r. outcome (Refused r) n s) (λ t. runFrom left (suc n) t) .state)
+    go : (t : Turn) → TurnOk F t → ((t : State) → Sound F t → Sound F (runFrom left (suc n) t .state)) → Sound F
+        (onTurn t (outcome Finished n s) (λ r. outcome (Refused r) n s) (λ t. runFrom left (suc n) t) .state)
     go finishes h k = i
     go (stops r) h k = i
     go (continues t) h k = k t h

@@ -65,7 +65,8 @@ module _ (n e c : ℕ) (e≥ : 221 ≤ e) where
   f-free p = rw (ne-eqb c 0 (omega arith), ne-eqb c 3 (omega arith), le-ltb c 21 (omega arith), le-ltb c 221 (omega arith), le-ltb c e p, choose)
 
   -- by the kind of cell
-  fresh-case : (P : Cell → Type 0) → (c ≡ 0 → P (word zeros)) → (c ≡ 3 → P (word (emptyWord (nextFree n e)))) → (c < 21 → P (word (emptyWord 0))) → (21 ≤ c → c < 221 → P process) → (221 ≤ c → c < e → P (word (emptyWord 0))) → (e ≤ c → P (free (nextFree n (suc c)))) → P (freshCell n e c)
+  fresh-case : (P : Cell → Type 0) → (c ≡ 0 → P (word zeros)) → (c ≡ 3 → P (word (emptyWord (nextFree n e)))) → (c < 21 → P (word (emptyWord 0))) →
+      (21 ≤ c → c < 221 → P process) → (221 ≤ c → c < e → P (word (emptyWord 0))) → (e ≤ c → P (free (nextFree n (suc c)))) → P (freshCell n e c)
   fresh-case P z h w j r f = go₁ (ℕ-discrete c 0) (ℕ-discrete c 3) (decLt c 21) (decLt c 221) (decLt c e)
     where
       go₁ : Dec (c ≡ 0) → Dec (c ≡ 3) → Dec (c < 21) → Dec (c < 221) → Dec (c < e) → P (freshCell n e c)
@@ -113,13 +114,30 @@ module _ (F : Frame) where
   fresh-at c b = let e : 0 + c ≡ c = omega arith in cellsFrom-at _ (F .n) 0 c b ∙ ap (freshCell (F .n) end) e
 
   empty-ok : {c l : ℕ} → l < F .n → (21 ≤ c → 221 ≤ c) → WordOk F c (emptyWord l)
-  empty-ok b j = let h = F .big in record { p≤7 = omega arith; q≤4 = omega arith; q≢3 = omega arith; q≢1 = λ _. omega arith; symb< = omega arith; link< = b; noJ = j }
+  empty-ok b j = let h = F .big in record {
+    p≤7 = omega arith;
+    q≤4 = omega arith;
+    q≢3 = omega arith;
+    q≢1 = λ _. omega arith;
+    symb< = omega arith;
+    link< = b;
+    noJ = j;
+  }
 
   fresh-each : (c : ℕ) → c < F .n → CellOk F c (freshCell (F .n) end c)
   fresh-each c b =
       let h = F .big in
       fresh-case (F .n) end c (F .end≥) (CellOk F c)
-      (λ z. record { p≤7 = omega arith; q≤4 = omega arith; q≢3 = omega arith; q≢1 = λ _. omega arith; symb< = omega arith; link< = omega arith; noJ = λ b. absurd (omega arith) })
+      (λ z. record {
+        p≤7 = omega arith;
+        q≤4 = omega arith;
+        q≢3 = omega arith;
+        q≢1 = λ _. omega arith;
+        symb< = omega arith;
+        link< = omega arith;
+        noJ =
+            λ b. absurd (omega arith);
+      })
       (λ z. empty-ok (first< (F .n) end (omega arith)) (λ b. absurd (omega arith)))
       (λ z. empty-ok (omega arith) (λ b. absurd (omega arith)))
       (λ p q. record { low = p; high = q })
@@ -129,10 +147,13 @@ module _ (F : Frame) where
   fresh-chain : (k c : ℕ) → c + k ≡ F .n → end ≤ c → Chain cs (nextFree (F .n) c) (range k c)
   unfolding range
   fresh-chain zero c e b = rw (first-none (F .n) c (omega arith)) ends
-  fresh-chain (suc k) c e b = rw (first-here (F .n) c (omega arith)) (on (fresh-at c (omega arith) ∙ f-free (F .n) end c (F .end≥) b) (rw fresh-length (omega arith)) (range-fresh k c (suc c) (omega arith)) (fresh-chain k (suc c) (omega arith) (omega arith)))
+  fresh-chain (suc k) c e b = rw (first-here (F .n) c (omega arith))
+      (on (fresh-at c (omega arith) ∙ f-free (F .n) end c (F .end≥) b) (rw fresh-length (omega arith)) (range-fresh k c (suc c) (omega arith))
+      (fresh-chain k (suc c) (omega arith) (omega arith)))
 
   fresh-free : (c : ℕ) → isFree (freshCell (F .n) end c) ≡ true → end ≤ c
-  fresh-free c = fresh-case (F .n) end c (F .end≥) (λ x. isFree x ≡ true → end ≤ c) (λ _ e. never false e refl) (λ _ e. never false e refl) (λ _ e. never false e refl) (λ _ _ e. never false e refl) (λ _ _ e. never false e refl) (λ p _. p)
+  fresh-free c = fresh-case (F .n) end c (F .end≥) (λ x. isFree x ≡ true → end ≤ c) (λ _ e. never false e refl) (λ _ e. never false e refl)
+      (λ _ e. never false e refl) (λ _ _ e. never false e refl) (λ _ _ e. never false e refl) (λ p _. p)
 
   pub fresh-sound : length (F .had) ≤ F .out → Sound F freshState
   fresh-sound fits =

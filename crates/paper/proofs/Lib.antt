@@ -7,6 +7,9 @@ pub mod ProcessLaws
 pub mod CycleLaws
 pub mod SoundTest
 pub mod FreshLaws
+pub mod BookLaws
+pub mod RegionLaws
+pub mod RecordLaws
 pub mod DeckLaws
 pub mod Demand1
 pub mod LoadLaws

@@ -7,10 +7,9 @@ use Prim.Native.Nat.{ℕ, suc}
 use lib.Dec.{leb}
 use lib.ListN.{length, replicate}
 use borrow.Author.Tests.{leb-true}
-use Rattle.paper.specs.declared.Fault.{Fault}
 use Rattle.paper.specs.declared.LoadAnswer.{LoadAnswer}
 use Rattle.paper.specs.declared.LoadAnswer.the-variants.{Loaded, BadSize, Broken}
-use Rattle.paper.specs.Cell.{Cell, word, zeros, State, sizeFits}
+use Rattle.paper.specs.Cell.{Cell, word, zeros, State}
 use Rattle.paper.specs.Deck.{Ended, complete, broken, LoadOutcome, ending, records, freshBook, load}
 use Rattle.paper.proofs.DeckLaws.{EndedSound, loaded-sound}
 use Rattle.paper.proofs.Demand1.{Runnable}
@@ -33,14 +32,20 @@ ended before (broken f o) h = (refl, refl)
 abbrev outcomeIf : List ℕ → List Cell → Bool → LoadOutcome
 outcomeIf deck before fits =
     let size = length before in
-    elim fits as (λ _. LoadOutcome) [ true ↦ ending size (records size (suc (length deck)) 0 deck (freshBook size [])) | false ↦ record { answer = BadSize; cells = before; regions = [] } ]
+    elim fits as (λ _. LoadOutcome) [
+      | true ↦ ending size (records size (suc (length deck)) 0 deck
+          (freshBook size []))
+      | false ↦ record { answer = BadSize; cells = before; regions = [] }
+    ]
 
 pub load-leaves : (deck : List ℕ) (before : List Cell) → let l = load deck before in Leaves before l (l .answer)
 unfolding load
 load-leaves deck before = go (leb 256 (length before)) refl (leb (length before) 16384) refl
   where
-    go : (a : Bool) → leb 256 (length before) ≡ a → (b : Bool) → leb (length before) 16384 ≡ b → let l = outcomeIf deck before (a && b) in Leaves before l (l .answer)
-    go true p true q = ended before (records (length before) (suc (length deck)) 0 deck (freshBook (length before) [])) (loaded-sound (length before) deck (leb-true 256 (length before) p) (leb-true (length before) 16384 q))
+    go : (a : Bool) → leb 256 (length before) ≡ a → (b : Bool) → leb (length before) 16384 ≡ b → let l = outcomeIf deck before (a && b) in
+        Leaves before l (l .answer)
+    go true p true q = ended before (records (length before) (suc (length deck)) 0 deck (freshBook (length before) []))
+        (loaded-sound (length before) deck (leb-true 256 (length before) p) (leb-true (length before) 16384 q))
     go true p false q = (refl, refl)
     go false p true q = (refl, refl)
     go false p false q = (refl, refl)

@@ -10,13 +10,20 @@ use lib.Signed.{mag}
 use lib.Dec.{eqb, leb, ltb}
 use lib.ListN.{length, length-append}
 use borrow.Author.Tests.{ltb-true, ltb-false, lt-ltb, leb-true}
-use Rattle.paper.specs.Cell.{Symbol, local, internal, Word, mkWord, emptyWord, Cell, free, word, integer, process, isFree, isProcess, fits32, endOfRegions, State, isHW}
+use Rattle.paper.specs.Cell.{Symbol, local, internal, Word, mkWord, emptyWord, Cell, free, word, integer, process, isFree, isProcess, fits32}
+use Rattle.paper.specs.Cell.{endOfRegions, State, isHW}
 use Rattle.paper.specs.Act.{Act, asks, becomes, Refusal}
 use Rattle.paper.specs.Print.{printLine, withLine}
-use Rattle.paper.specs.Process.{moveTo, sign, setH5, tests, putInteger, copyName, J2, J5, J6, J9, eachW, J2n, J3n, J4n, J5n, isEnd, atEnd, dropEnd, moveOn, nextCell, J60, J63, J64, deleteLast, deleteNext, J68, erases, J71, J72, J74, J90, combines, compares, compares0, changes, J120, J124, testsTag, J131, retags, J152, J153, Entry, one, ten, listed, performIn, perform}
+use Rattle.paper.specs.Process.{moveTo, sign, setH5, tests, putInteger, copyName, J2, J5, J6, J9, eachW, J2n, J3n, J4n, J5n, isEnd, atEnd}
+use Rattle.paper.specs.Process.{dropEnd, moveOn, nextCell, J60, J63, J64, deleteLast, deleteNext, J68, erases, J71, J72, J74, J90, combines}
+use Rattle.paper.specs.Process.{compares, compares0, changes, J120, J124, testsTag, J131, retags, J152, J153, Entry, one, ten, listed}
+use Rattle.paper.specs.Process.{performIn, perform}
 use Rattle.paper.proofs.Safe.{Safe, Any, bind, seq, weaken, start, safe-ret, safe-asks, safe-refuse, safe-refuseIf, safe-ifThen}
 use Rattle.paper.proofs.SoundStore.{Frame, SymbolOk, WordOk, CellOk, Used, never, or-false, and-true}
-use Rattle.paper.proofs.ActLaws.{All, all-map, Ok, forget, first, second, fewer, Touched, Named, Readable, Fills, linked, moved, tagged, as-regional, as-internal, unreserved, s-reserved, s-nameOf, s-own, s-touch, s-wordAt, s-integerAt, s-notOwn, s-named, s-put, s-takeAs, s-release, s-linkBelow, s-pullUp, s-preserve, s-restore, s-store, s-ownStore, s-push, s-pop, s-top, s-below, s-pops, s-gives}
+use Rattle.paper.proofs.ActLaws.{All, all-map, Ok, forget, first, second, fewer, Named, Readable, Fills, linked, moved, tagged, as-regional}
+use Rattle.paper.proofs.ActLaws.{as-internal, unreserved, s-reserved, s-nameOf, s-own, s-touch, s-wordAt, s-integerAt, s-notOwn, s-named}
+use Rattle.paper.proofs.ActLaws.{s-put, s-takeAs, s-release, s-linkBelow, s-pullUp, s-preserve, s-restore, s-store, s-ownStore, s-push, s-pop}
+use Rattle.paper.proofs.ActLaws.{s-top, s-below, s-pops, s-gives}
 use Rattle.paper.proofs.WalkLaws.{s-walkBack, s-chainBack, s-eraseBack, s-copy}
 
 -- from a sound store to a sound store
@@ -134,7 +141,8 @@ module _ {F : Frame} where
   unfolding moveOn
   s-moveOn c b = bind (s-nameOf c b) λ x y. seq (s-setH5 true) λ _ _. s-gives 1 x y
 
-  s-dropEnd : {us : List ℕ} (w0 w : Word) → Readable F w0 → Named F (w0 .symb) w → endOfRegions (F .rs) 221 ≤ w .link → Safe (Ok F (w .link ∷ w0 .symb ∷ us)) Any (λ _. Ok F []) (dropEnd w0 w)
+  s-dropEnd : {us : List ℕ} (w0 w : Word) → Readable F w0 → Named F (w0 .symb) w → endOfRegions (F .rs) 221 ≤ w .link → Safe
+      (Ok F (w .link ∷ w0 .symb ∷ us)) Any (λ _. Ok F []) (dropEnd w0 w)
   unfolding dropEnd
   s-dropEnd w0 w y k b =
       seq (s-put (w0 .symb) _ second (k .notH2) (linked (k .here .good) (0< F)) refl) λ _ _. seq (s-release (w .link) first b) λ _ _. s-atEnd _ (y .good)
@@ -154,7 +162,18 @@ module _ {F : Frame} where
   s-J63 = bind s-top λ w0 k. bind (s-below w0) λ w1 _. seq (s-preserve (w1 .symb)) λ _ _. seq (s-store (w1 .symb) _ (k .good)) λ _ _. s-pops 2
 
   inserted : {c : ℕ} (w0 w : Word) → Readable F w0 → WordOk F c w → Fills F (word (mkWord 0 (w0 .q) (w0 .symb) (w .link)))
-  inserted w0 w y k = let x = y .good in record { fits = λ c b. record { p≤7 = omega arith; q≤4 = x .tag≤4; q≢3 = x .tag≢3; q≢1 = λ _. x .tag≢1; symb< = x .num<; link< = k .link<; noJ = λ _. b }; kept = refl }
+  inserted w0 w y k = let x = y .good in record {
+    fits = λ c b. record {
+      p≤7 = omega arith;
+      q≤4 = x .tag≤4;
+      q≢3 = x .tag≢3;
+      q≢1 = λ _. x .tag≢1;
+      symb< = x .num<;
+      link< = k .link<;
+      noJ = λ _. b;
+    };
+    kept = refl;
+  }
 
   s-J64 : Kept F J64
   unfolding J64
@@ -163,7 +182,15 @@ module _ {F : Frame} where
       seq (s-linkBelow (w1 .symb) w _ first (h .notH2) (h .here .good) (inserted w0 w k (h .here .good))) λ _ _. s-pops 2
 
   empty-ok : {c : ℕ} → (21 ≤ c → 221 ≤ c) → WordOk F c (emptyWord 0)
-  empty-ok j = let b = F .big in record { p≤7 = omega arith; q≤4 = omega arith; q≢3 = omega arith; q≢1 = λ _. omega arith; symb< = omega arith; link< = omega arith; noJ = j }
+  empty-ok j = let b = F .big in record {
+    p≤7 = omega arith;
+    q≤4 = omega arith;
+    q≢3 = omega arith;
+    q≢1 = λ _. omega arith;
+    symb< = omega arith;
+    link< = omega arith;
+    noJ = j;
+  }
 
   s-J68 : Kept F J68
   unfolding J68 deleteLast deleteNext
@@ -178,7 +205,8 @@ module _ {F : Frame} where
 
   pub s-J72 : Kept F J72
   unfolding J72 erases
-  s-J72 = bind s-top λ w0 _. bind (s-walkBack (w0 .symb)) λ back p. seq (s-eraseBack back (record { once = p .once; all = all-nonzero back (p .all) })) λ _ _. s-pop
+  s-J72 = bind s-top λ w0 _. bind (s-walkBack (w0 .symb)) λ back p. seq
+      (s-eraseBack back (record { once = p .once; all = all-nonzero back (p .all) })) λ _ _. s-pop
 
   pub s-J74 : Kept F J74
   unfolding J74
@@ -186,7 +214,8 @@ module _ {F : Frame} where
 
   s-J90 : Kept F J90
   unfolding J90
-  s-J90 = bind (s-takeAs _ (moved (empty-ok {c = 221} (λ _. omega arith)))) λ n o. weaken (λ _ _. tt) (λ _ s _ i. forget s i) (s-push _ (as-internal n (o .ours .below)))
+  s-J90 = bind (s-takeAs _ (moved (empty-ok {c = 221} (λ _. omega arith)))) λ n o. weaken (λ _ _. tt) (λ _ s _ i. forget s i)
+      (s-push _ (as-internal n (o .ours .below)))
 
   -- integers
   s-combines : (f : ℤ → ℤ → ℤ) → Kept F (combines f)
@@ -212,7 +241,8 @@ module _ {F : Frame} where
   unfolding J120
   s-J120 =
       bind s-top λ w0 _. bind (s-integerAt (w0 .symb)) λ a h.
-      bind (s-takeAs _ (record { fits = λ c b. record { place = b; range = h .good .range }; kept = refl })) λ n o. s-gives 1 _ (copyName-ok w0 n (o .ours .below))
+      bind (s-takeAs _ (record { fits = λ c b. record { place = b; range = h .good .range }; kept = refl })) λ n o. s-gives 1 _
+      (copyName-ok w0 n (o .ours .below))
 
   s-J124 : Kept F J124
   unfolding J124
@@ -238,7 +268,8 @@ module _ {F : Frame} where
   s-asks : {us : List ℕ} {A : Type 0} (f : State → A) → Safe {E = Refusal} (Ok F us) Any (λ _. Ok F us) (asks f)
   s-asks f = weaken (λ _ _. tt) (λ _ _ _ i. i .0) (safe-asks f)
 
-  s-line : {us : List ℕ} (t : List ℕ) (r : ℕ) → suc (length t) ≤ r → Safe {E = Refusal} (λ s. Ok F us s × (s .room ≡ r)) Any (λ _. Ok F us) (becomes (withLine t))
+  s-line : {us : List ℕ} (t : List ℕ) (r : ℕ) → suc (length t) ≤ r → Safe {E = Refusal} (λ s. Ok F us s × (s .room ≡ r)) Any (λ _. Ok F us)
+      (becomes (withLine t))
   unfolding becomes
   s-line {us} t r b = record {
     at = λ s i.
@@ -296,7 +327,8 @@ module _ (F : Frame) where
   all-listed : AllEntries F listed
   unfolding listed
   all-listed =
-      just 0 (safe-ret _ tt forget) also just 2 s-J2 also just 3 (s-setH5 _) also just 4 (s-setH5 _) also just 5 s-J5 also just 6 s-J6 also just 8 s-pop also just 9 s-J9
+      just 0 (safe-ret _ tt forget) also just 2 s-J2 also just 3 (s-setH5 _) also just 4
+      (s-setH5 _) also just 5 s-J5 also just 6 s-J6 also just 8 s-pop also just 9 s-J9
       also tens 20 s-J2n also tens 30 s-J3n also tens 40 s-J4n also tens 50 s-J5n
       also just 60 s-J60 also just 63 s-J63 also just 64 s-J64 also just 68 s-J68
       also just 71 s-J71 also just 72 s-J72 also just 74 s-J74 also just 90 s-J90
@@ -312,7 +344,8 @@ module _ {F : Frame} where
   s-performIn : (es : List Entry) → AllEntries F es → (n : ℕ) → Kept F (performIn es n)
   unfolding performIn
   s-performIn [] no-more n = safe-refuse _
-  s-performIn (e ∷ es) (h also hs) n = safe-ifThen _ (λ b. let (a, d) = and-true (leb (e .from) n) (leb n (e .upTo)) b in h .does n (leb-true (e .from) n a) (leb-true n (e .upTo) d)) (λ _. s-performIn es hs n)
+  s-performIn (e ∷ es) (h also hs) n = safe-ifThen _ (λ b. let (a, d) = and-true (leb (e .from) n) (leb n (e .upTo)) b in h .does n
+      (leb-true (e .from) n a) (leb-true n (e .upTo) d)) (λ _. s-performIn es hs n)
 
   pub s-perform : {us : List ℕ} (n : ℕ) → Safe (Ok F us) Any (λ _. Ok F []) (perform n)
   unfolding perform

@@ -13,7 +13,8 @@ use lib.Dec.{eqb}
 use lib.ListN.{length, getD, set, length-set, List·getD-eq-default}
 use lib.Seq.{getD-set-same, getD-set-other, lt-length-set}
 use borrow.Author.Tests.{eqb-false, ne-eqb, eq-eqb}
-use Rattle.paper.specs.Cell.{Symbol, Word, withLink, zeros, Cell, free, word, integer, process, isFree, wordIn, cellAt, Region, endOfRegions, State, withCells}
+use Rattle.paper.specs.Cell.{Symbol, Word, withLink, zeros, Cell, free, word, integer, process, isFree, wordIn, cellAt, Region, endOfRegions}
+use Rattle.paper.specs.Cell.{State, withCells}
 use Rattle.paper.specs.Walk.{member}
 use Rattle.paper.specs.Sound.{regionsSound}
 
@@ -99,7 +100,8 @@ pub record Used (s : State) (c : ℕ) : Type 0 where
   pub kept : isFree (at s c) ≡ false
 
 -- general: a case on what `set` gives; Booleans
-pub set-at : (P : ℕ → Cell → Type 0) (cs : List Cell) (c : ℕ) (x : Cell) → c < length cs → P c x → (k : ℕ) → (k ≢ c → P k (getD cs k (free 0))) → P k (getD (set cs c x) k (free 0))
+pub set-at : (P : ℕ → Cell → Type 0) (cs : List Cell) (c : ℕ) (x : Cell) → c < length cs → P c x → (k : ℕ) → (k ≢ c → P k (getD cs k (free 0))) → P k
+    (getD (set cs c x) k (free 0))
 set-at P cs c x b p k q = go (ℕ-discrete k c)
   where
     go : Dec (k ≡ c) → P k (getD (set cs c x) k (free 0))
@@ -230,7 +232,8 @@ module _ (F : Frame) where
     H2-linked l b = let k = H2-ok in record { p≤7 = k .p≤7; q≤4 = k .q≤4; q≢3 = k .q≢3; q≢1 = k .q≢1; symb< = k .symb<; link< = b; noJ = k .noJ }
 
     -- of a cell of the new store: it is the new one, or H2, or as it was
-    took-at : (P : ℕ → Cell → Type 0) → P (h .link) x → P 3 (word (withLink h (r .l))) → (k : ℕ) → (k ≢ h .link → k ≢ 3 → P k (at s k)) → P k (getD tookCells k (free 0))
+    took-at : (P : ℕ → Cell → Type 0) → P (h .link) x → P 3 (word (withLink h (r .l))) → (k : ℕ) → (k ≢ h .link → k ≢ 3 → P k (at s k)) → P k
+        (getD tookCells k (free 0))
     took-at P p q k o = set-at P mid (h .link) x new< p k (λ a. set-at P (s .cells) 3 (word (withLink h (r .l))) H2< q k (λ b. o a b))
 
     took-H2 : getD tookCells 3 (free 0) ≡ word (withLink h (r .l))
@@ -247,7 +250,8 @@ module _ (F : Frame) where
     took-size = length-set mid (h .link) x ∙ length-set (s .cells) 3 (word (withLink h (r .l))) ∙ i .size
 
     took-zeros : getD tookCells 0 (free 0) ≡ word zeros
-    took-zeros = getD-set-other mid (h .link) 0 x (free 0) (λ e. new≢0 (sym e)) ∙ getD-set-other (s .cells) 3 0 (word (withLink h (r .l))) (free 0) (λ e. absurd (omega arith)) ∙ i .zeros
+    took-zeros = getD-set-other mid (h .link) 0 x (free 0) (λ e. new≢0 (sym e)) ∙ getD-set-other (s .cells) 3 0 (word (withLink h (r .l))) (free 0)
+        (λ e. absurd (omega arith)) ∙ i .zeros
 
     pub took-sound : CellOk F (h .link) x → isFree x ≡ false → Sound F (withCells s tookCells)
     took-sound k f = record {
@@ -259,7 +263,8 @@ module _ (F : Frame) where
       each = λ j. took-at (λ j y. j < F .n → CellOk F j y) (λ _. k) (λ _. H2-linked (r .l) (new-free .link<)) j (λ _ _. i .each j);
       frees = r .ns;
       chain = rw (took-H2, startOf) took-chain;
-      met = λ j. took-at (λ j y. j < F .n → isFree y ≡ true → member j (r .ns) ≡ true) (λ _ e. never _ e f) (λ _ e. never false e refl) j (λ a b l e. took-met j (i .met j l e) a);
+      met = λ j. took-at (λ j y. j < F .n → isFree y ≡ true → member j (r .ns) ≡ true) (λ _ e. never _ e f) (λ _ e. never false e refl) j
+          (λ a b l e. took-met j (i .met j l e) a);
     }
 
     pub took-used : isFree x ≡ false → (k : ℕ) → Used s k → Used (withCells s tookCells) k
@@ -294,7 +299,8 @@ module _ (F : Frame) where
     c<′ : c < length (s .cells)
     c<′ = rw (i .size) c<
 
-    gave-at : (P : ℕ → Cell → Type 0) → P c (free (h .link)) → P 3 (word (withLink h c)) → (k : ℕ) → (k ≢ c → k ≢ 3 → P k (at s k)) → P k (getD gaveCells k (free 0))
+    gave-at : (P : ℕ → Cell → Type 0) → P c (free (h .link)) → P 3 (word (withLink h c)) → (k : ℕ) → (k ≢ c → k ≢ 3 → P k (at s k)) → P k
+        (getD gaveCells k (free 0))
     gave-at P p q k o = set-at P mid′ 3 (word (withLink h c)) H2<′ q k (λ b. set-at P (s .cells) c (free (h .link)) c<′ p k (λ a. o a b))
 
     gave-H2 : getD gaveCells 3 (free 0) ≡ word (withLink h c)
@@ -304,13 +310,15 @@ module _ (F : Frame) where
     gave-c = getD-set-other mid′ 3 c (word (withLink h c)) (free 0) c≢3 ∙ getD-set-same (s .cells) c (free (h .link)) (free 0) c<′
 
     gave-chain : Chain gaveCells (h .link) (i .frees)
-    gave-chain = chain-set 3 _ (not-in 3 (ap isFree at-H2) (i .chain)) (chain-set c _ (not-in c (u .kept) (i .chain)) (subst (λ a. Chain (s .cells) (wordIn a .link) (i .frees)) at-H2 (i .chain)))
+    gave-chain = chain-set 3 _ (not-in 3 (ap isFree at-H2) (i .chain))
+        (chain-set c _ (not-in c (u .kept) (i .chain)) (subst (λ a. Chain (s .cells) (wordIn a .link) (i .frees)) at-H2 (i .chain)))
 
     gave-size : length gaveCells ≡ F .n
     gave-size = length-set mid′ 3 (word (withLink h c)) ∙ length-set (s .cells) c (free (h .link)) ∙ i .size
 
     gave-zeros : getD gaveCells 0 (free 0) ≡ word zeros
-    gave-zeros = getD-set-other mid′ 3 0 (word (withLink h c)) (free 0) (λ e. absurd (omega arith)) ∙ getD-set-other (s .cells) c 0 (free (h .link)) (free 0) (λ e. u .nonzero (sym e)) ∙ i .zeros
+    gave-zeros = getD-set-other mid′ 3 0 (word (withLink h c)) (free 0) (λ e. absurd (omega arith)) ∙ getD-set-other (s .cells) c 0 (free (h .link))
+        (free 0) (λ e. u .nonzero (sym e)) ∙ i .zeros
 
     gave-met : (k : ℕ) → member k (i .frees) ≡ true → k ≢ c → member k (c ∷ i .frees) ≡ true
     unfolding member
@@ -330,8 +338,13 @@ module _ (F : Frame) where
       each = λ j. gave-at (λ j y. j < F .n → CellOk F j y) (λ _. record { notReserved = un; link< = H2-ok′ .link< }) (λ _. H2-linked′) j (λ _ _. i .each j);
       frees = c ∷ i .frees;
       chain = rw (gave-H2, startOf) (on gave-c (rw gave-size c<) (not-in c (u .kept) (i .chain)) gave-chain);
-      met = λ j. gave-at (λ j y. j < F .n → isFree y ≡ true → member j (c ∷ i .frees) ≡ true) (λ _ _. gave-own) (λ _ e. never false e refl) j (λ a b l e. gave-met j (i .met j l e) a);
+      met = λ j. gave-at (λ j y. j < F .n → isFree y ≡ true → member j (c ∷ i .frees) ≡ true) (λ _ _. gave-own) (λ _ e. never false e refl) j
+          (λ a b l e. gave-met j (i .met j l e) a);
     }
 
     pub gave-used : (k : ℕ) → k ≢ c → Used s k → Used (withCells s gaveCells) k
-    gave-used k a u = record { nonzero = u .nonzero; kept = gave-at (λ j y. j ≢ c → isFree y ≡ false) (λ a. absurd (a refl)) (λ _. refl) k (λ _ _ _. u .kept) a }
+    gave-used k a u = record {
+      nonzero = u .nonzero;
+      kept = gave-at (λ j y. j ≢ c → isFree y ≡ false) (λ a. absurd (a refl)) (λ _. refl) k
+          (λ _ _ _. u .kept) a;
+    }

@@ -82,7 +82,8 @@ or-right false b q = q
 -- each cell
 cell-from : (F : Frame) (c : ℕ) (x : Cell) → c ≢ 0 → cellSound (F .n) (endOfRegions (F .rs) 221) c x ≡ true → CellOk F c x
 unfolding cellSound
-cell-from F c (free l) z e = let (a, b) = and-true (leb (endOfRegions (F .rs) 221) c) (ltb l (F .n)) e in record { notReserved = leb-true _ c a; link< = ltb-true l (F .n) b }
+cell-from F c (free l) z e = let (a, b) = and-true (leb (endOfRegions (F .rs) 221) c) (ltb l (F .n)) e in
+    record { notReserved = leb-true _ c a; link< = ltb-true l (F .n) b }
 cell-from F c (word w) z e =
     let (e₁, place) = and-true (wordSound (F .n) c w) (ltb c 21 || leb 221 c) e in
     let (e₂, link) = and-true (leb (w .p) 7 && qTest (w .q) (not (isHW c)) && ltb (w .symb) (F .n)) (ltb (w .link) (F .n)) e₁ in
@@ -97,7 +98,8 @@ cell-from F c (word w) z e =
       link< = ltb-true (w .link) (F .n) link;
       noJ = λ b. leb-true 221 c (rw (le-ltb c 21 b) at place);
     }
-cell-from F c (integer i) z e = let (a, b) = and-true (leb 221 c) (ltb (mag i) 2147483648) e in record { place = leb-true 221 c a; range = ltb-true (mag i) 2147483648 b }
+cell-from F c (integer i) z e = let (a, b) = and-true (leb 221 c) (ltb (mag i) 2147483648) e in
+    record { place = leb-true 221 c a; range = ltb-true (mag i) 2147483648 b }
 cell-from F c process z e = let (a, b) = and-true (leb 21 c) (ltb c 221) e in record { low = leb-true 21 c a; high = ltb-true c 221 b }
 
 not-HW : (c q : ℕ) → (c < 21 → q ≢ 1) → not (isHW c) ≡ false → q ≢ 1
@@ -122,7 +124,9 @@ cell-test : (F : Frame) (c : ℕ) (x : Cell) → CellOk F c x → cellSound (F .
 unfolding cellSound
 cell-test F c (free l) k = and-both _ _ (le-leb _ c (k .notReserved)) (lt-ltb l (F .n) (k .link<))
 cell-test F c (word w) k =
-    and-both _ _ (and-both _ _ (and-both _ _ (and-both _ _ (le-leb (w .p) 7 (k .p≤7)) (q-test (w .q) (not (isHW c)) (k .q≤4) (k .q≢3) (not-HW c (w .q) (k .q≢1)))) (lt-ltb (w .symb) (F .n) (k .symb<))) (lt-ltb (w .link) (F .n) (k .link<))) (place-test c (k .noJ))
+    and-both _ _ (and-both _ _ (and-both _ _ (and-both _ _ (le-leb (w .p) 7 (k .p≤7))
+    (q-test (w .q) (not (isHW c)) (k .q≤4) (k .q≢3) (not-HW c (w .q) (k .q≢1)))) (lt-ltb (w .symb) (F .n) (k .symb<)))
+    (lt-ltb (w .link) (F .n) (k .link<))) (place-test c (k .noJ))
 cell-test F c (integer z) k = and-both _ _ (le-leb 221 c (k .place)) (lt-ltb (mag z) 2147483648 (k .range))
 cell-test F c process k = and-both _ _ (le-leb 21 c (k .low)) (lt-ltb c 221 (k .high))
 
@@ -130,7 +134,8 @@ cells-at : (n e : ℕ) (xs : List Cell) (c k : ℕ) → cellsSound n e c xs ≡ 
 unfolding cellsSound
 cells-at n e [] c k h b = absurd (omega arith)
 cells-at n e (x ∷ xs) c zero h b = let p : c + 0 ≡ c = omega arith in rw p (and-true (cellSound n e c x) (cellsSound n e (suc c) xs) h .0)
-cells-at n e (x ∷ xs) c (suc k) h b = let p : c + suc k ≡ suc c + k = omega arith in rw p (cells-at n e xs (suc c) k (and-true (cellSound n e c x) (cellsSound n e (suc c) xs) h .1) (omega arith))
+cells-at n e (x ∷ xs) c (suc k) h b = let p : c + suc k ≡ suc c + k = omega arith in rw p
+    (cells-at n e xs (suc c) k (and-true (cellSound n e c x) (cellsSound n e (suc c) xs) h .1) (omega arith))
 
 cells-test : (n e : ℕ) (xs : List Cell) (c : ℕ) → ((k : ℕ) → k < length xs → cellSound n e (c + k) (getD xs k (free 0)) ≡ true) → cellsSound n e c xs ≡ true
 unfolding cellsSound
@@ -172,20 +177,30 @@ still-free : (cs : List Cell) (c : ℕ) (fs : List ℕ) → member c fs ≡ fals
 unfolding member struck
 still-free cs c [] m h = tt
 still-free cs c (x ∷ xs) m h =
-    let (a, b) = or-false (eqb c x) (member c xs) m in
-    (record { below = lt-length-set cs c _ (h .0 .below); isFree = ap Rattle.paper.specs.Cell.isFree (getD-set-other cs c x _ (free 0) (λ e. eqb-false c x a (sym e))) ∙ h .0 .isFree }, still-free cs c xs b (h .1))
+    let (a, b) = or-false (eqb c x) (member c xs) m in (
+      record {
+        below = lt-length-set cs c _ (h .0 .below);
+        isFree = ap Rattle.paper.specs.Cell.isFree
+            (getD-set-other cs c x _ (free 0) (λ e. eqb-false c x a (sym e))) ∙ h .0 .isFree;
+      },
+      still-free cs c xs b (h .1),
+    )
 
 -- as many cells as fs has are free at least; and no more, if every free cell is in fs
 at-least : (fs : List ℕ) (cs : List Cell) → Distinct fs → All (FreeIn cs) fs → length fs ≤ freeCount cs
 unfolding struck
 at-least [] cs d h = omega arith
-at-least (c ∷ fs) cs d h = let i = at-least fs (struck cs c) (d .1) (still-free cs c fs (d .0) (h .1)) in omega (arith, strike cs c (h .0 .below) (h .0 .isFree))
+at-least (c ∷ fs) cs d h = let i = at-least fs (struck cs c) (d .1) (still-free cs c fs (d .0) (h .1)) in omega
+    (arith, strike cs c (h .0 .below) (h .0 .isFree))
 
-at-most : (fs : List ℕ) (cs : List Cell) → Distinct fs → All (FreeIn cs) fs → ((c : ℕ) → c < length cs → isFree (getD cs c (free 0)) ≡ true → member c fs ≡ true) → freeCount cs ≡ length fs
+at-most : (fs : List ℕ) (cs : List Cell) → Distinct fs → All (FreeIn cs) fs →
+    ((c : ℕ) → c < length cs → isFree (getD cs c (free 0)) ≡ true → member c fs ≡ true) → freeCount cs ≡ length fs
 unfolding member struck
 at-most [] cs d h m = none-free cs (λ c b f. false≢true (m c b f))
 at-most (c ∷ fs) cs d h m =
-    strike cs c (h .0 .below) (h .0 .isFree) ∙ ap suc (at-most fs (struck cs c) (d .1) (still-free cs c fs (d .0) (h .1)) (λ k b. set-at (λ k y. isFree y ≡ true → member k fs ≡ true) cs c (word zeros) (h .0 .below) (λ e. false≢true e) k (λ a f. rw (ne-eqb k c a) at (m k (rw length-set at b) f))))
+    strike cs c (h .0 .below) (h .0 .isFree) ∙ ap suc (at-most fs (struck cs c) (d .1) (still-free cs c fs (d .0) (h .1))
+    (λ k b. set-at (λ k y. isFree y ≡ true → member k fs ≡ true) cs c (word zeros) (h .0 .below) (λ e. false≢true e) k
+    (λ a f. rw (ne-eqb k c a) at (m k (rw length-set at b) f))))
 
 -- the list from H2: what the test finds at one cell
 record Link (k : ℕ) (cs : List Cell) (c : ℕ) : Type 0 where
@@ -211,8 +226,18 @@ link-of : (k : ℕ) (cs : List Cell) (c : ℕ) → freeList (suc k) cs c ≡ tru
 unfolding freeList
 link-of k cs c h = go (getD cs c (word zeros)) refl h
   where
-    go : (x : Cell) → getD cs c (word zeros) ≡ x → _≡_ {A = Bool} (elim x as (λ _. Bool) [ free l ↦ not (eqb c 0) && freeList k cs l | word w ↦ false | integer z ↦ false | process ↦ false ]) true → Link k cs c
-    go (free l) e h = let (a, r) = and-true (not (eqb c 0)) (freeList k cs l) h in record { l = l; is = getD-any cs c (free 0) (word zeros) (free-below cs c l e) ∙ e; below = free-below cs c l e; nonzero = eqb-false c 0 (not-true (eqb c 0) a); rest = r }
+    go : (x : Cell) → getD cs c (word zeros) ≡ x → _≡_ {A = Bool}
+        (elim x as (λ _. Bool) [ free l ↦ not (eqb c 0) && freeList k cs l | word w ↦ false | integer z ↦ false | process ↦ false ]) true
+        → Link k cs c
+    go (free l) e h = let (a, r) = and-true (not (eqb c 0)) (freeList k cs l) h in
+        record {
+          l = l;
+          is = getD-any cs c (free 0) (word zeros) (free-below cs c l e) ∙ e;
+          below = free-below cs c l e;
+          nonzero = eqb-false c 0
+              (not-true (eqb c 0) a);
+          rest = r;
+        }
     go (word w) e h = false≢true h
     go (integer z) e h = false≢true h
     go process e h = false≢true h
@@ -246,7 +271,12 @@ module _ (k : ℕ) (cs : List Cell) (a : ℕ) (h : freeList (suc k) cs a ≡ tru
   back-more c m (no e) = let r = b .back c (rw (ne-eqb c a e) at m) in (r .0, omega (arith, r .1), r .2)
 
   built-more : Built (suc k) cs a
-  built-more = let l = link-of k cs a h in record { fs = a ∷ b .fs; chain = on (l .is) (l .below) (fresh (member a (b .fs)) refl) (b .chain); len = ap suc (b .len); back = λ c m. back-more c m (ℕ-discrete c a) }
+  built-more = let l = link-of k cs a h in record {
+    fs = a ∷ b .fs;
+    chain = on (l .is) (l .below) (fresh (member a (b .fs)) refl) (b .chain);
+    len = ap suc (b .len);
+    back = λ c m. back-more c m (ℕ-discrete c a);
+  }
 
 build : (k : ℕ) (cs : List Cell) (a : ℕ) → freeList k cs a ≡ true → Built k cs a
 unfolding freeList member
@@ -275,7 +305,8 @@ all-met cs a b c l f = go (member c (b .fs)) refl
   where
     go : (t : Bool) → member c (b .fs) ≡ t → t ≡ true
     go true e = refl
-    go false e = let t = chain-free (b .chain) in let m : suc (length (b .fs)) ≤ freeCount cs = at-least (c ∷ b .fs) cs (e, t .0) (record { below = l; isFree = f }, t .1) in absurd (omega (arith, b .len))
+    go false e = let t = chain-free (b .chain) in let m : suc (length (b .fs)) ≤ freeCount cs = at-least (c ∷ b .fs) cs (e, t .0)
+        (record { below = l; isFree = f }, t .1) in absurd (omega (arith, b .len))
 
 chain-list : {cs : List Cell} {a : ℕ} {fs : List ℕ} → isFree (getD cs 0 (free 0)) ≡ false → Chain cs a fs → freeList (length fs) cs a ≡ true
 unfolding freeList
@@ -294,7 +325,8 @@ pub record Tested (s : State) : Type 0 where
   pub out-is : frame .out ≡ length (s .lines) + s .room
   pub isSound : Sound frame s
 
-module _ (s : State) (big : leb 256 (length (s .cells)) ≡ true) (small : leb (length (s .cells)) 16384 ≡ true) (table : regionsSound (length (s .cells)) 221 (s .regions) ≡ true)
+module _ (s : State) (big : leb 256 (length (s .cells)) ≡ true) (small : leb (length (s .cells)) 16384 ≡ true)
+    (table : regionsSound (length (s .cells)) 221 (s .regions) ≡ true)
     (first : isZeros (getD (s .cells) 0 (free 0)) ≡ true) (cells : cellsSound (length (s .cells)) (endOfRegions (s .regions) 221) 0 (s .cells) ≡ true)
     (list : freeList (freeCount (s .cells)) (s .cells) (freeStart (s .cells)) ≡ true) where
   abbrev frameOf : Frame
@@ -311,7 +343,16 @@ module _ (s : State) (big : leb 256 (length (s .cells)) ≡ true) (small : leb (
   }
 
   each-from : (c : ℕ) → c < length (s .cells) → Dec (c ≡ 0) → CellOk frameOf c (at s c)
-  each-from c b (yes e) = rw (e, zeros-from (at s 0) first) (record { p≤7 = omega arith; q≤4 = omega arith; q≢3 = omega arith; q≢1 = λ _. omega arith; symb< = omega arith; link< = omega arith; noJ = λ h. absurd (omega arith) })
+  each-from c b (yes e) = rw (e, zeros-from (at s 0) first) (record {
+    p≤7 = omega arith;
+    q≤4 = omega arith;
+    q≢3 = omega arith;
+    q≢1 =
+        λ _. omega arith;
+    symb< = omega arith;
+    link< = omega arith;
+    noJ = λ h. absurd (omega arith);
+  })
   each-from c b (no e) = let p : 0 + c ≡ c = omega arith in cell-from frameOf c (at s c) e (rw p at (cells-at _ _ (s .cells) 0 c cells b))
 
   tested : Tested s
@@ -357,9 +398,11 @@ sound-passes F s i =
     let m : freeCount (s .cells) ≡ length (i .frees) = at-most (i .frees) (s .cells) (t .0) (t .1) (λ c b f. i .met c (rw (i .size) at b) f) in
     let l : freeList (freeCount (s .cells)) (s .cells) (freeStart (s .cells)) ≡ true = rw m (chain-list (ap isFree (i .zeros)) (i .chain)) in
     let c : cellsSound (length (s .cells)) (endOfRegions (s .regions) 221) 0 (s .cells) ≡ true =
-    rw (i .size, i .regions) (cells-test (F .n) (endOfRegions (F .rs) 221) (s .cells) 0 (λ k b. let p : 0 + k ≡ k = omega arith in rw p (cell-test F k (at s k) (i .each k (rw (i .size) at b))))) in
+    rw (i .size, i .regions) (cells-test (F .n) (endOfRegions (F .rs) 221) (s .cells) 0
+    (λ k b. let p : 0 + k ≡ k = omega arith in rw p (cell-test F k (at s k) (i .each k (rw (i .size) at b))))) in
     let r : regionsSound (length (s .cells)) 221 (s .regions) ≡ true = rw (i .size, i .regions) (F .table) in
     and-both _ _ (and-both _ _ (and-both _ _ r (ap isZeros (i .zeros))) c) l
 
 pub size-passes : (F : Frame) (s : State) → Sound F s → sizeFits (length (s .cells)) ≡ true
-size-passes F s i = and-both _ _ (le-leb 256 (length (s .cells)) (omega (arith, i .size, F .big))) (le-leb (length (s .cells)) 16384 (omega (arith, i .size, F .small)))
+size-passes F s i = and-both _ _ (le-leb 256 (length (s .cells)) (omega (arith, i .size, F .big)))
+    (le-leb (length (s .cells)) 16384 (omega (arith, i .size, F .small)))

@@ -9,11 +9,13 @@ use lib.Dec.{eqb, ltb}
 use lib.ListN.{length}
 use borrow.Author.Tests.{eqb-false, ne-eqb, ltb-false, lt-ltb}
 use Rattle.paper.specs.Cell.{Word, emptyWord, Cell, free, word, integer, process, isFree, endOfRegions, isHWJ, State}
-use Rattle.paper.specs.Act.{Act, peek, put}
-use Rattle.paper.specs.Walk.{member, listNamed, linkIn, meet, along, walkBack, chain, chainBack, noneReserved, releaseAll, eraseBack, takeAll, renamed, copiedWord, copied, copyAll, copy}
+use Rattle.paper.specs.Act.{peek, put}
+use Rattle.paper.specs.Walk.{member, listNamed, linkIn, meet, along, walkBack, chain, chainBack, noneReserved, releaseAll, eraseBack, takeAll}
+use Rattle.paper.specs.Walk.{renamed, copiedWord, copied, copyAll, copy}
 use Rattle.paper.proofs.Safe.{Safe, Any, bind, seq, weaken, start, safe-ret, safe-refuse, safe-refuseIf, safe-ifThen}
 use Rattle.paper.proofs.SoundStore.{Frame, at, WordOk, CellOk, Sound, Used, never, or-false, used-below, put-sound, put-used}
-use Rattle.paper.proofs.ActLaws.{All, all-map, Ok, forget, first, Ours, New, Fills, moved, unreserved, s-touch, s-named, s-reserved, s-sized, s-takeAs, s-releaseOne}
+use Rattle.paper.proofs.ActLaws.{All, all-map, Ok, forget, first, Ours, New, Fills, moved, unreserved, s-touch, s-named, s-reserved, s-sized}
+use Rattle.paper.proofs.ActLaws.{s-takeAs, s-releaseOne}
 
 -- lists of cells
 abbrev pub Distinct : List ℕ → Type 0
@@ -92,7 +94,8 @@ module _ {F : Frame} where
   s-along zero d b c seen p = safe-refuse _
   s-along (suc n) d b c seen p =
       bind (s-meet b d c seen) λ x k.
-      bind (safe-ifThen {P = Walked} {J = λ out. Ok F out} _ (λ _. safe-ret _ (more p k) (λ s i. i)) (λ _. s-along n (suc d) false (listNamed x) (c ∷ seen) (more p k))) λ inner q.
+      bind (safe-ifThen {P = Walked} {J = λ out. Ok F out} _ (λ _. safe-ret _ (more p k) (λ s i. i))
+      (λ _. s-along n (suc d) false (listNamed x) (c ∷ seen) (more p k))) λ inner q.
       safe-ifThen _ (λ _. safe-ret _ q (λ s i. i)) (λ _. s-along n d true (linkIn x) inner q)
 
   pub s-walkBack : {us : List ℕ} (c : ℕ) → Safe (Ok F us) Walked (λ out. Ok F out) (walkBack c)
@@ -114,10 +117,12 @@ module _ {F : Frame} where
       (λ _. s-sized _ λ n. start forget (s-chain _ c [] (record { once = tt; all = tt })))
 
   -- erase
-  s-noneReserved : {us : List ℕ} (cs : List ℕ) → All (λ c. c ≢ 0) cs → Safe (Ok F us) (λ _. All (λ c. endOfRegions (F .rs) 221 ≤ c) cs) (λ _. Ok F us) (noneReserved cs)
+  s-noneReserved : {us : List ℕ} (cs : List ℕ) → All (λ c. c ≢ 0) cs → Safe (Ok F us) (λ _. All (λ c. endOfRegions (F .rs) 221 ≤ c) cs)
+      (λ _. Ok F us) (noneReserved cs)
   unfolding noneReserved
   s-noneReserved [] z = safe-ret _ tt (λ s i. i)
-  s-noneReserved (c ∷ cs) z = bind (s-reserved c) λ r e. seq (safe-refuseIf _ _) λ _ f. weaken (λ _ h. (unreserved F (z .0) r e f, h)) (λ _ _ _ i. i) (s-noneReserved cs (z .1))
+  s-noneReserved (c ∷ cs) z = bind (s-reserved c) λ r e. seq (safe-refuseIf _ _) λ _ f. weaken (λ _ h. (unreserved F (z .0) r e f, h)) (λ _ _ _ i. i)
+      (s-noneReserved cs (z .1))
 
   s-releaseAll : (cs : List ℕ) → Distinct cs → All (λ c. endOfRegions (F .rs) 221 ≤ c) cs → Safe (Ok F cs) Any (λ _. Ok F []) (releaseAll cs)
   unfolding releaseAll
@@ -126,16 +131,29 @@ module _ {F : Frame} where
 
   pub s-eraseBack : (cs : List ℕ) → Each (λ c. c ≢ 0) cs → Safe (Ok F cs) Any (λ _. Ok F []) (eraseBack cs)
   unfolding eraseBack
-  s-eraseBack cs p = seq (s-noneReserved (reverse cs) (onto _ cs [] (p .all) tt)) λ _ h. s-releaseAll cs (p .once) (back-from (λ c. endOfRegions (F .rs) 221 ≤ c) cs [] h .0)
+  s-eraseBack cs p = seq (s-noneReserved (reverse cs) (onto _ cs [] (p .all) tt)) λ _ h. s-releaseAll cs (p .once)
+      (back-from (λ c. endOfRegions (F .rs) 221 ≤ c) cs [] h .0)
 
   -- copy
   blank : Fills F (word (emptyWord 0))
-  blank = let b = F .big in record { fits = λ c h. record { p≤7 = omega arith; q≤4 = omega arith; q≢3 = omega arith; q≢1 = λ _. omega arith; symb< = omega arith; link< = omega arith; noJ = λ _. h }; kept = refl }
+  blank = let b = F .big in record {
+    fits = λ c h. record {
+      p≤7 = omega arith;
+      q≤4 = omega arith;
+      q≢3 = omega arith;
+      q≢1 = λ _. omega arith;
+      symb< = omega arith;
+      link< = omega arith;
+      noJ = λ _. h;
+    };
+    kept = refl;
+  }
 
   pub s-takeAll : {us : List ℕ} (cs : List ℕ) → Safe (Ok F us) (NewCells F us) (λ ns. Copying F us ns) (takeAll cs)
   unfolding takeAll
   s-takeAll [] = safe-ret _ (record { ours = tt; once = tt; apart = tt }) (λ s i. record { sound = i .sound; olds = i .used; news = tt })
-  s-takeAll (c ∷ cs) = bind (s-takeAs _ blank) λ n o. bind (s-takeAll cs) λ ns os. safe-ret _ (one-new o os) (λ s i. record { sound = i .sound; olds = i .olds .1; news = (i .olds .0, i .news) })
+  s-takeAll (c ∷ cs) = bind (s-takeAs _ blank) λ n o. bind (s-takeAll cs) λ ns os. safe-ret _ (one-new o os)
+      (λ s i. record { sound = i .sound; olds = i .olds .1; news = (i .olds .0, i .news) })
 
   holds : (c : ℕ) (x : Cell) → 221 ≤ c → isFree x ≡ false → CellOk F c x → Fills F x
   holds c (free l) b f k = never _ refl f
@@ -177,7 +195,8 @@ module _ {F : Frame} where
   copied-ok new b (integer z) k = k
   copied-ok new b process k = k
 
-  s-copyAll : (new : ℕ → ℕ) → ((c : ℕ) → new c < F .n) → (os ns : List ℕ) → All (λ c. 221 ≤ c) os → All (Ours F) ns → Safe (Copying F os ns) Any (λ _. Ok F []) (copyAll new os ns)
+  s-copyAll : (new : ℕ → ℕ) → ((c : ℕ) → new c < F .n) → (os ns : List ℕ) → All (λ c. 221 ≤ c) os → All (Ours F) ns → Safe (Copying F os ns) Any
+      (λ _. Ok F []) (copyAll new os ns)
   unfolding copyAll
   s-copyAll new b [] ns h k = safe-ret _ tt (λ s i. record { sound = i .sound; used = tt })
   s-copyAll new b (o ∷ os) [] h k = safe-ret _ tt (λ s i. record { sound = i .sound; used = tt })

@@ -9,8 +9,10 @@ use lib.IntN.{ℤ}
 pub use Rattle.paper.specs.Step.{Res, done, refused, Step}
 unfoldable pub use Rattle.paper.specs.Step.{_>>=_, _>>_, ret, refuse, refuseIf, ifThen, asks, becomes, choose, stepOpen}
 pub use Rattle.paper.specs.declared.Refusal.{Refusal}
-pub use Rattle.paper.specs.declared.Refusal.the-variants.{CellZero, FreeCell, WrongKind, NotToBeFreed, NothingBelow, NoFreeCell, OwnCell, NotListed, OutOfRange, NoRoom, BadWalk}
-use Rattle.paper.specs.Cell.{Symbol, Word, Cell, free, word, cellAt, isFree, isWord, isInteger, wordIn, integerIn, freeLink, State, withCells, withSymbol, withLink, symbolOf, H, reservedIn, nameIn, isHW, cellOpen}
+pub use Rattle.paper.specs.declared.Refusal.the-variants.{CellZero, FreeCell, WrongKind, NotToBeFreed, NothingBelow, NoFreeCell, OwnCell}
+pub use Rattle.paper.specs.declared.Refusal.the-variants.{NotListed, OutOfRange, NoRoom, BadWalk}
+use Rattle.paper.specs.Cell.{Symbol, Word, Cell, free, word, cellAt, isFree, isWord, isInteger, wordIn, integerIn, freeLink, State, withCells}
+use Rattle.paper.specs.Cell.{withSymbol, withLink, symbolOf, H, reservedIn, nameIn, isHW, cellOpen}
 
 abbrev pub Act : Type 0 → Type 0
 Act A = Step State Refusal A

@@ -1,7 +1,8 @@
 -- Document 01, "Answer numbers": the number of each answer.
 use Prim.Native.Nat.{ℕ}
 use Rattle.paper.specs.declared.Refusal.{Refusal}
-use Rattle.paper.specs.declared.Refusal.the-variants.{CellZero, FreeCell, WrongKind, NotToBeFreed, NothingBelow, NoFreeCell, OwnCell, NotListed, OutOfRange, NoRoom, BadWalk}
+use Rattle.paper.specs.declared.Refusal.the-variants.{CellZero, FreeCell, WrongKind, NotToBeFreed, NothingBelow, NoFreeCell, OwnCell, NotListed}
+use Rattle.paper.specs.declared.Refusal.the-variants.{OutOfRange, NoRoom, BadWalk}
 use Rattle.paper.specs.declared.Fault.{Fault}
 use Rattle.paper.specs.declared.Fault.the-variants.{PastEnd, UnknownKind, BadField, BadRegion, BadName, NoWord, NoCell, NotEnded}
 use Rattle.paper.specs.declared.RunAnswer.{RunAnswer}

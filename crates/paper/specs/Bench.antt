@@ -4,7 +4,6 @@ use mathlib.Core.List.{List, [], _∷_, _++_}
 use Prim.Native.Nat.{ℕ, _/_, _%_}
 use lib.ListN.{length, replicate}
 use lib.Dec.{T, eqb}
-use Rattle.paper.specs.declared.RunAnswer.{RunAnswer}
 use Rattle.paper.specs.declared.LoadAnswer.{LoadAnswer}
 use Rattle.paper.specs.declared.LoadAnswer.the-variants.{Loaded, BadSize, Broken}
 use Rattle.paper.specs.Answer.{runNumber, loadNumber}
@@ -151,7 +150,8 @@ copying n list = join (
 
 -- "L0 empty, then 9-1, then W0, where 9-1 is empty, then W1"; the size of region L sets how many cells are free
 unfoldable pub fiveCells : ℕ → List ℕ
-fiveCells n = copying n (datum (inL 0) nil blank ∷ datum blank (nine 1) blank ∷ datum blank (inW 0) nil ∷ datum (nine 1) blank blank ∷ datum blank (inW 1) nil ∷ [])
+fiveCells n = copying n (datum (inL 0) nil blank ∷ datum blank (nine 1) blank ∷ datum blank (inW 0) nil ∷ datum (nine 1) blank blank ∷ datum blank
+    (inW 1) nil ∷ [])
 
 -- "9-1 named twice"
 unfoldable pub namedTwice : List ℕ

@@ -4,7 +4,8 @@ use mathlib.Core.List.{[], _∷_}
 use Prim.Native.Nat.{ℕ, zero, suc, _-_}
 use lib.Dec.{eqb}
 use Rattle.paper.specs.Cell.{Symbol, regional, Word, wordIn, symbolOf, isInteger, isProcess, H, J}
-use Rattle.paper.specs.Act.{Act, _>>=_, _>>_, ret, refuse, refuseIf, ifThen, choose, sized, own, touch, notOwn, nameOf, preserve, restore, store, ownStore, ownPreserve, ownRestore, push, pop, designate, WrongKind}
+use Rattle.paper.specs.Act.{Act, _>>=_, _>>_, ret, refuse, refuseIf, ifThen, choose, sized, own, touch, notOwn, nameOf, preserve, restore}
+use Rattle.paper.specs.Act.{store, ownStore, ownPreserve, ownRestore, push, pop, designate, WrongKind}
 use Rattle.paper.specs.Walk.{linkIn}
 use Rattle.paper.specs.Process.{perform}
 

@@ -11,7 +11,8 @@ use Rattle.paper.specs.declared.Fault.the-variants.{PastEnd, UnknownKind
 use Rattle.paper.specs.declared.LoadAnswer.{LoadAnswer}
 use Rattle.paper.specs.declared.LoadAnswer.the-variants.{Loaded, BadSize, Broken}
 use Rattle.paper.specs.Step.{Res, done, refused, Step, _>>=_, _>>_, ret, refuse, refuseIf, ifThen, asks, becomes, choose}
-use Rattle.paper.specs.Cell.{Word, mkWord, zeros, emptyWord, withLink, Cell, free, word, integer, process, cellAt, wordIn, freeLink, Region, endOfRegions, H, W, J, sizeFits}
+use Rattle.paper.specs.Cell.{Word, mkWord, zeros, emptyWord, withLink, Cell, free, word, integer, process, cellAt, wordIn, freeLink, Region}
+use Rattle.paper.specs.Cell.{endOfRegions, H, W, J, sizeFits}
 use Rattle.paper.specs.Sound.{isTaken}
 use Rattle.paper.specs.Record.{Field, Regional, Local, Zero, Blank, Record, region, routine, datum, number, start, recordAt, sizeOf}
 
@@ -47,14 +48,31 @@ abbrev pub withCells : Book → List Cell → Book
 withCells b cs = record { cells = cs; regions = b .regions; words = b .words; opened = b .opened; locals = b .locals; names = b .names; waiting = b .waiting }
 
 abbrev pub withLocal : ℕ → ℕ → Bool → Book → Book
-withLocal n c w b = record { cells = b .cells; regions = b .regions; words = b .words; opened = b .opened; locals = set (b .locals) n (record { cell = c; hasWord = w }); names = b .names; waiting = b .waiting }
+withLocal n c w b = record {
+  cells = b .cells;
+  regions = b .regions;
+  words = b .words;
+  opened = b .opened;
+  locals = set (b .locals) n
+      (record { cell = c; hasWord = w });
+  names = b .names;
+  waiting = b .waiting;
+}
 
 abbrev pub withWaiting : ℕ → Book → Book
 withWaiting c b = record { cells = b .cells; regions = b .regions; words = true; opened = b .opened; locals = b .locals; names = b .names; waiting = c }
 
 -- "A regional NAME outside H, W, J opens a structure; locals belong to the open one"
 abbrev pub withStructure : ℕ → Book → Book
-withStructure c b = record { cells = b .cells; regions = b .regions; words = true; opened = true; locals = noLocals; names = set (b .names) c true; waiting = b .waiting }
+withStructure c b = record {
+  cells = b .cells;
+  regions = b .regions;
+  words = true;
+  opened = true;
+  locals = noLocals;
+  names = set (b .names) c true;
+  waiting = b .waiting;
+}
 
 -- the cells before any word: "The free list starts ascending", "Undefined regional cells are empty words", "H0, W and the rest of H
 -- are empty"; the reserved cells end at `end`

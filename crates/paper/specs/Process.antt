@@ -6,8 +6,10 @@ use Prim.Native.Nat.{ℕ, zero, suc, _+_, _-_}
 use lib.Dec.{leb, eqb}
 use lib.IntN.{ℤ, pos, negℤ, _+ℤ_, _-ℤ_}
 use lib.Signed.{ltZ}
-use Rattle.paper.specs.Cell.{Symbol, regional, local, internal, Word, mkWord, emptyWord, symbolOf, withLink, word, integer, isInteger, isProcess, fits32, H, W, J, isHW}
-use Rattle.paper.specs.Act.{Act, _>>=_, _>>_, ret, refuse, refuseIf, ifThen, asks, put, own, touch, wordAt, integerAt, named, notOwn, takeAs, linkBelow, release, reserved, nameOf, preserve, restore, store, ownStore, push, pop, below, pops, gives, pullUp}
+use Rattle.paper.specs.Cell.{Symbol, regional, local, internal, Word, mkWord, emptyWord, symbolOf, withLink, word, integer, isInteger}
+use Rattle.paper.specs.Cell.{isProcess, fits32, H, W, J, isHW}
+use Rattle.paper.specs.Act.{Act, _>>=_, _>>_, ret, refuse, refuseIf, ifThen, asks, put, own, touch, wordAt, integerAt, named, notOwn, takeAs}
+use Rattle.paper.specs.Act.{linkBelow, release, reserved, nameOf, preserve, restore, store, ownStore, push, pop, below, pops, gives, pullUp}
 use Rattle.paper.specs.Act.{WrongKind, NotToBeFreed, NotListed, OutOfRange}
 use Rattle.paper.specs.Print.{printLine, symbolText, integerText}
 use Rattle.paper.specs.Walk.{walkBack, chainBack, eraseBack, copy}

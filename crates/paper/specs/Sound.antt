@@ -4,7 +4,8 @@ use mathlib.Core.List.{List, [], _∷_}
 use Prim.Native.Nat.{ℕ, zero, suc, _+_}
 use lib.ListN.{length, getD}
 use lib.Dec.{ltb, leb, eqb}
-use Rattle.paper.specs.Cell.{Word, Cell, free, word, integer, process, zeros, isFree, wordIn, fits32, cellAt, Region, endOfRegions, State, isHW, H, cellOpen}
+use Rattle.paper.specs.Cell.{Word, Cell, free, word, integer, process, zeros, isFree, wordIn, fits32, cellAt, Region, endOfRegions, State, isHW}
+use Rattle.paper.specs.Cell.{H, cellOpen}
 
 -- "every number is below N, P is at most 7, Q is 0, 1, 2 or 4"; "Words in H and W cells have Q 0, 2 or 4"
 abbrev pub wordSound : ℕ → ℕ → Word → Bool

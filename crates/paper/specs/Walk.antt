@@ -3,8 +3,9 @@ use mathlib.Core.Bool.{Bool, true, false, cond, _&&_, _||_, not}
 use mathlib.Core.List.{List, [], _∷_, reverse}
 use Prim.Native.Nat.{ℕ, zero, suc}
 use lib.Dec.{ltb, eqb}
-use Rattle.paper.specs.Cell.{Word, mkWord, emptyWord, Cell, free, word, integer, process, isWord, isInteger, isProcess, wordIn, isHWJ}
-use Rattle.paper.specs.Act.{Act, _>>=_, _>>_, ret, refuse, refuseIf, ifThen, peek, put, touch, named, takeAs, release, reserved, sized, WrongKind, NotToBeFreed, BadWalk, actOpen}
+use Rattle.paper.specs.Cell.{Word, mkWord, emptyWord, Cell, free, word, integer, process, isWord, isInteger, wordIn, isHWJ}
+use Rattle.paper.specs.Act.{Act, _>>=_, _>>_, ret, refuse, refuseIf, ifThen, peek, put, touch, named, takeAs, release, reserved, sized}
+use Rattle.paper.specs.Act.{WrongKind, NotToBeFreed, BadWalk}
 
 unfoldable pub member : ℕ → List ℕ → Bool
 member c [] = false

@@ -1,0 +1,3 @@
+-- Laws of the packed cell and of the bridge.
+pub mod Laws
+pub mod Store

@@ -1,0 +1,20 @@
+use Rattle.cells.proofs.Laws.{by-kind, cond-same}
+use Rattle.paper.specs.Cell.{freeLink}
+use borrow.Author.Tests.{lt-ltb, le-ltb}
+use borrow.Author.Needs.{needs}
+use Rattle.cells.proofs.free_link.Statement.{statement}
+use Rattle.cells.proofs.free_link.Tie as tie
+
+returns : tie.Need-returns
+returns c = simp (by-kind freeLink (c .before .args .x), lt-ltb _ _ (c .if1 .taken))
+
+returns-2 : tie.Need-returns-2
+returns-2 c =
+    simp (by-kind freeLink (c .before .before .args .x), le-ltb _ _ (c .before .if1 .left), lt-ltb _ _ (c .if2 .taken))
+
+returns-3 : tie.Need-returns-3
+returns-3 c =
+    simp (by-kind freeLink (c .before .before .args .x), le-ltb _ _ (c .before .if1 .left), le-ltb _ _ (c .if2 .left), cond-same)
+
+pub free-link-spec : {M : Type 1} → statement M
+free-link-spec = tie.close (tie.spec returns (λ c. search needs) returns-2 returns-3)

@@ -1,0 +1,194 @@
+// A cell in one number (specs/Layout): read, tested, taken apart and made.
+ghost use mathlib.Core.Path.{_≡_};
+ghost use Rattle.paper.specs.Cell.{word, free, integer, process, mkWord, withLink, withSymbol, symbolOf, isFree, isWord, isInteger, isProcess, wordIn, integerIn, freeLink};
+ghost use Rattle.cells.specs.Layout.{unpackOf, wordOf, valueOf};
+ghost use Rattle.cells.specs.Pack.{Packs, cellOf};
+ghost use Rattle.cells.specs.Bridge.{cellIn};
+use paper::Symbol;
+
+// The kinds, from bit 48 up: a number below FREE is a word.
+pub const FREE: u64 = 0x1000000000000;
+
+pub const INTEGER: u64 = 0x2000000000000;
+
+pub const PROCESS: u64 = 0x3000000000000;
+
+// P 0, tag 4, SYMB 0, LINK 0.
+pub const EMPTY: u64 = 0x400000000;
+
+// The integer 0, as its value + 2^31.
+pub const ZERO: u32 = 0x80000000;
+
+pub struct Word {
+    pub p: u8,
+    pub q: u8,
+    pub symb: u16,
+    pub link: u16,
+}
+
+// A cell taken apart. An integer is its value + 2^31, as everywhere in the code.
+pub enum Cell {
+    Free(u16),
+    Word(Word),
+    Integer(u32),
+    Process,
+}
+
+// The number at c; past the end, that of a free cell.
+pub fn peek(cells: &[u64], c: u16) -> u64
+    ensures { λ r. ⌜ cellIn (now (cells .entry)) c ≡ unpackOf r ⌝ }
+{
+    let i = c as usize;
+    if i < cells.len() {
+        return cells[i];
+    }
+    FREE
+}
+
+pub fn is_free(x: u64) -> bool
+    ensures { λ r. ⌜ r ≡ isFree (unpackOf x) ⌝ }
+{
+    FREE <= x && x < INTEGER
+}
+
+pub fn is_word(x: u64) -> bool
+    ensures { λ r. ⌜ r ≡ isWord (unpackOf x) ⌝ }
+{
+    x < FREE
+}
+
+pub fn is_integer(x: u64) -> bool
+    ensures { λ r. ⌜ r ≡ isInteger (unpackOf x) ⌝ }
+{
+    INTEGER <= x && x < PROCESS
+}
+
+pub fn is_process(x: u64) -> bool
+    ensures { λ r. ⌜ r ≡ isProcess (unpackOf x) ⌝ }
+{
+    if x < PROCESS {
+        return false;
+    }
+    true
+}
+
+// The word in a cell; an empty one where there is none.
+pub fn word_in(x: u64) -> u64
+    ensures { λ r. ⌜ wordIn (unpackOf x) ≡ wordOf r ⌝ }
+{
+    if x < FREE {
+        return x;
+    }
+    EMPTY
+}
+
+// The integer in a cell, as its value + 2^31; 0 where there is none.
+pub fn integer_in(x: u64) -> u32
+    ensures { λ r. ⌜ integerIn (unpackOf x) ≡ valueOf r ⌝ }
+{
+    if x < INTEGER {
+        return ZERO;
+    }
+    if x < PROCESS {
+        return (x % 4294967296) as u32;
+    }
+    ZERO
+}
+
+pub fn free_link(x: u64) -> u16
+    ensures { λ r. ⌜ freeLink (unpackOf x) ≡ r ⌝ }
+{
+    if x < FREE {
+        return 0;
+    }
+    if x < INTEGER {
+        return (x % 65536) as u16;
+    }
+    0
+}
+
+pub fn symbol(x: u64) -> Symbol
+    ensures { λ r. ⌜ r ≡ symbolOf (wordOf x) ⌝ }
+{
+    Symbol {
+        tag: (x / 4294967296 % 256) as u8,
+        num: (x / 65536 % 65536) as u16,
+    }
+}
+
+// The numbers of cells to be written. A word is any number: only its fields count.
+pub fn of_word(x: u64) -> u64
+    ensures { λ r. ⌜ Packs r (word (wordOf x)) ⌝ }
+{
+    x % FREE
+}
+
+pub fn of_fields(p: u8, q: u8, symb: u16, link: u16) -> u64
+    ensures { λ r. ⌜ Packs r (word (mkWord p q symb link)) ⌝ }
+{
+    (p as u64) * 1099511627776 + (q as u64) * 4294967296 + (symb as u64) * 65536 + (link as u64)
+}
+
+pub fn with_link(x: u64, l: u16) -> u64
+    ensures { λ r. ⌜ Packs r (word (withLink (wordOf x) l)) ⌝ }
+{
+    x % FREE / 65536 * 65536 + (l as u64)
+}
+
+pub fn with_symbol(x: u64, y: Symbol) -> u64
+    ensures { λ r. ⌜ Packs r (word (withSymbol (wordOf x) y)) ⌝ }
+{
+    x % FREE / 1099511627776 * 1099511627776
+        + (y.tag as u64) * 4294967296
+        + (y.num as u64) * 65536
+        + x % 65536
+}
+
+pub fn of_free(l: u16) -> u64
+    ensures { λ r. ⌜ Packs r (free l) ⌝ }
+{
+    FREE + (l as u64)
+}
+
+pub fn of_integer(v: u32) -> u64
+    ensures { λ r. ⌜ Packs r (integer (valueOf v)) ⌝ }
+{
+    INTEGER + (v as u64)
+}
+
+pub fn of_process() -> u64
+    ensures { λ r. ⌜ Packs r process ⌝ }
+{
+    PROCESS
+}
+
+pub fn unpack(x: u64) -> Cell
+    ensures { λ r. ⌜ cellOf r ≡ unpackOf x ⌝ }
+{
+    if x < FREE {
+        return Cell::Word(Word {
+            p: (x / 1099511627776 % 256) as u8,
+            q: (x / 4294967296 % 256) as u8,
+            symb: (x / 65536 % 65536) as u16,
+            link: (x % 65536) as u16,
+        });
+    }
+    if x < INTEGER {
+        return Cell::Free((x % 65536) as u16);
+    }
+    if x < PROCESS {
+        return Cell::Integer((x % 4294967296) as u32);
+    }
+    Cell::Process
+}
+
+pub fn pack(c: Cell) -> u64
+    ensures { λ r. ⌜ Packs r (cellOf c) ⌝ }
+{
+    match c {
+        Cell::Free(l) => of_free(l),
+        Cell::Word(w) => of_fields(w.p, w.q, w.symb, w.link),
+        Cell::Integer(v) => of_integer(v),
+        Cell::Process => of_process(),
+    }
+}
