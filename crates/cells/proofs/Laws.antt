@@ -11,9 +11,14 @@ use Rattle.cells.specs.Layout.{unpackOf, wordOf, linkOf, symbOf, qOf, pO
 use Rattle.cells.specs.Pack.{excess, packOf, WordFits, IntegerFits, CellFits, Valid, a-word, a-free, an-integer, a-process, Packs}
 
 -- a function of the cell, by the kind of its number: this gives all tests and parts
-pub by-kind : {A : Type 0} (f : Cell → A) (x : ℕ) → f (unpackOf x) ≡ cond (ltb x (2 ^ 48)) (f (word (wordOf x))) (cond (ltb x (2 * 2 ^ 48)) (f (free (linkOf x))) (cond (ltb x (3 * 2 ^ 48)) (f (integer (valueOf (x % 2 ^ 32)))) (f process)))
+pub by-kind : {A : Type 0} (f : Cell → A) (x : ℕ)
+    → f (unpackOf x)
+    ≡ cond (ltb x (2 ^ 48)) (f (word (wordOf x)))
+    (cond (ltb x (2 * 2 ^ 48)) (f (free (linkOf x))) (cond (ltb x (3 * 2 ^ 48)) (f (integer (valueOf (x % 2 ^ 32)))) (f process)))
 unfolding unpackOf
-by-kind {A} f x = over (ltb x (2 ^ 48)) _ _ ∙ ap (cond (ltb x (2 ^ 48)) _) (over (ltb x (2 * 2 ^ 48)) _ _ ∙ ap (cond (ltb x (2 * 2 ^ 48)) _) (over (ltb x (3 * 2 ^ 48)) _ _))
+by-kind {A} f x =
+    over (ltb x (2 ^ 48)) _ _
+    ∙ ap (cond (ltb x (2 ^ 48)) _) (over (ltb x (2 * 2 ^ 48)) _ _ ∙ ap (cond (ltb x (2 * 2 ^ 48)) _) (over (ltb x (3 * 2 ^ 48)) _ _))
   where
     over : (b : Bool) (y z : Cell) → f (cond b y z) ≡ cond b (f y) (f z)
     over true y z = refl
@@ -117,7 +122,8 @@ packs c f e =
     let u = ap unpackOf e ∙ unpack-pack c f in
     record { unpacks = u; formed = ap packOf u ∙ sym e }
 
-pub packs-word : (p q s l : ℕ) {r : ℕ} → p < 2 ^ 8 → q < 2 ^ 8 → s < 2 ^ 16 → l < 2 ^ 16 → r ≡ p * 2 ^ 40 + q * 2 ^ 32 + s * 2 ^ 16 + l → Packs r (word (mkWord p q s l))
+pub packs-word : (p q s l : ℕ) {r : ℕ} → p < 2 ^ 8 → q < 2 ^ 8 → s < 2 ^ 16 → l < 2 ^ 16 → r ≡ p * 2 ^ 40 + q * 2 ^ 32 + s * 2 ^ 16 + l
+    → Packs r (word (mkWord p q s l))
 packs-word p q s l a b c d e = packs (word (mkWord p q s l)) (record { p = a; q = b; symb = c; link = d }) e
 
 pub packs-integer : (a : ℕ) {r : ℕ} → a < 2 ^ 32 → r ≡ 2 * 2 ^ 48 + a → Packs r (integer (valueOf a))

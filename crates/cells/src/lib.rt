@@ -6,6 +6,13 @@ ghost use Rattle.cells.specs.Pack.{Packs, cellOf};
 ghost use Rattle.cells.specs.Bridge.{cellIn};
 use paper::Symbol;
 
+// The units of the fields above LINK.
+pub const SYMB: u64 = 0x10000;
+
+pub const Q: u64 = 0x100000000;
+
+pub const P: u64 = 0x10000000000;
+
 // The kinds, from bit 48 up: a number below FREE is a word.
 pub const FREE: u64 = 0x1000000000000;
 
@@ -90,7 +97,7 @@ pub fn integer_in(x: u64) -> u32
         return ZERO;
     }
     if x < PROCESS {
-        return (x % 4294967296) as u32;
+        return (x % Q) as u32;
     }
     ZERO
 }
@@ -111,8 +118,8 @@ pub fn symbol(x: u64) -> Symbol
     ensures { λ r. ⌜ r ≡ symbolOf (wordOf x) ⌝ }
 {
     Symbol {
-        tag: (x / 4294967296 % 256) as u8,
-        num: (x / 65536 % 65536) as u16,
+        tag: (x / Q % 256) as u8,
+        num: (x / SYMB % 65536) as u16,
     }
 }
 
@@ -126,22 +133,19 @@ pub fn of_word(x: u64) -> u64
 pub fn of_fields(p: u8, q: u8, symb: u16, link: u16) -> u64
     ensures { λ r. ⌜ Packs r (word (mkWord p q symb link)) ⌝ }
 {
-    (p as u64) * 1099511627776 + (q as u64) * 4294967296 + (symb as u64) * 65536 + (link as u64)
+    (p as u64) * P + (q as u64) * Q + (symb as u64) * SYMB + (link as u64)
 }
 
 pub fn with_link(x: u64, l: u16) -> u64
     ensures { λ r. ⌜ Packs r (word (withLink (wordOf x) l)) ⌝ }
 {
-    x % FREE / 65536 * 65536 + (l as u64)
+    x % FREE / SYMB * SYMB + (l as u64)
 }
 
 pub fn with_symbol(x: u64, y: Symbol) -> u64
     ensures { λ r. ⌜ Packs r (word (withSymbol (wordOf x) y)) ⌝ }
 {
-    x % FREE / 1099511627776 * 1099511627776
-        + (y.tag as u64) * 4294967296
-        + (y.num as u64) * 65536
-        + x % 65536
+    x % FREE / P * P + (y.tag as u64) * Q + (y.num as u64) * SYMB + x % 65536
 }
 
 pub fn of_free(l: u16) -> u64
@@ -167,9 +171,9 @@ pub fn unpack(x: u64) -> Cell
 {
     if x < FREE {
         return Cell::Word(Word {
-            p: (x / 1099511627776 % 256) as u8,
-            q: (x / 4294967296 % 256) as u8,
-            symb: (x / 65536 % 65536) as u16,
+            p: (x / P % 256) as u8,
+            q: (x / Q % 256) as u8,
+            symb: (x / SYMB % 65536) as u16,
             link: (x % 65536) as u16,
         });
     }
@@ -177,7 +181,7 @@ pub fn unpack(x: u64) -> Cell
         return Cell::Free((x % 65536) as u16);
     }
     if x < PROCESS {
-        return Cell::Integer((x % 4294967296) as u32);
+        return Cell::Integer((x % Q) as u32);
     }
     Cell::Process
 }

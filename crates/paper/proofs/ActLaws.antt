@@ -105,16 +105,16 @@ no-Q1 : (c q : ℕ) → c ≢ 0 → isHW c && eqb q 1 ≡ false → c < 21 → q
 no-Q1 c q z e b = eqb-false q 1 (rw (lt-ltb 0 c (omega arith), lt-ltb c 21 b) at e)
 
 -- what taking and freeing come to
-none-left : (x : Cell) (s : State) (h : Word) → at s 3 ≡ word h → eqb (h .link) 0 ≡ true → takeAs x s ≡ refused NoFreeCell
+pub none-left : (x : Cell) (s : State) (h : Word) → at s 3 ≡ word h → eqb (h .link) 0 ≡ true → takeAs x s ≡ refused NoFreeCell
 unfolding primOpen actOpen
 none-left x s h e b = rw (e, b, _>>=_, _>>_)
 
-takes : (x : Cell) (s : State) (h : Word) (l : ℕ) → at s 3 ≡ word h → eqb (h .link) 0 ≡ false → at s (h .link) ≡ free l → takeAs x s ≡ done (h .link)
+pub takes : (x : Cell) (s : State) (h : Word) (l : ℕ) → at s 3 ≡ word h → eqb (h .link) 0 ≡ false → at s (h .link) ≡ free l → takeAs x s ≡ done (h .link)
     (withCells s (took (s .cells) h l x))
 unfolding primOpen actOpen
 takes x s h l e b f = rw (e, b, e, f, _>>=_, _>>_)
 
-frees : (c : ℕ) (s : State) (h : Word) → at s 3 ≡ word h → release c s ≡ done tt (withCells s (gave (s .cells) h c))
+pub frees : (c : ℕ) (s : State) (h : Word) → at s 3 ≡ word h → release c s ≡ done tt (withCells s (gave (s .cells) h c))
 unfolding primOpen actOpen
 frees c s h e = rw (e, _>>=_, _>>_)
 

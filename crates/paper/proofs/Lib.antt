@@ -1,4 +1,4 @@
--- What follows from the definitions. Read Demand1 and LoadLaws; the others lead there.
+-- What follows from the definitions. Read Demand1, Demand3 and LoadLaws; the others lead there.
 pub mod Safe
 pub mod SoundStore
 pub mod ActLaws
@@ -14,3 +14,16 @@ pub mod DeckLaws
 pub mod Demand1
 pub mod LoadLaws
 pub mod Handed
+pub mod CellLists
+pub mod Goes
+pub mod ReadLaws
+pub mod FreeList
+pub mod TopLaws
+pub mod LoopLaws
+pub mod WalkForm
+pub mod EraseLaws
+pub mod CopyLaws
+pub mod StructureLaws
+pub mod CopyWalk
+pub mod RoundTrip
+pub mod Demand3

@@ -199,7 +199,7 @@ module _ {F : Frame} where
       safe-ifThen _ (λ _. seq (s-put (w0 .symb) _ first (o .1) (empty-ok (k .good .noJ)) refl) λ _ _. s-tests 1 false)
       (λ _. seq (s-pullUp (w0 .symb) (w .link) first (k .nonzero) (o .1) (k .good .noJ)) λ _ _. s-tests 1 true)
 
-  s-J71 : Kept F J71
+  pub s-J71 : Kept F J71
   unfolding J71 erases
   s-J71 = bind s-top λ w0 _. bind (s-chainBack (w0 .symb)) λ back p. seq (s-eraseBack back p) λ _ _. s-pop
 

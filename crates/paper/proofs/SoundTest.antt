@@ -166,7 +166,7 @@ none-free (x ∷ xs) h = go (isFree x) (h 0 (omega arith)) (none-free xs (λ c b
     go false h e = e
 
 -- free cells of cs
-record FreeIn (cs : List Cell) (c : ℕ) : Type 0 where
+pub record FreeIn (cs : List Cell) (c : ℕ) : Type 0 where
   below : c < length cs
   isFree : isFree (getD cs c (free 0)) ≡ true
 
@@ -193,7 +193,7 @@ at-least [] cs d h = omega arith
 at-least (c ∷ fs) cs d h = let i = at-least fs (struck cs c) (d .1) (still-free cs c fs (d .0) (h .1)) in omega
     (arith, strike cs c (h .0 .below) (h .0 .isFree))
 
-at-most : (fs : List ℕ) (cs : List Cell) → Distinct fs → All (FreeIn cs) fs →
+pub at-most : (fs : List ℕ) (cs : List Cell) → Distinct fs → All (FreeIn cs) fs →
     ((c : ℕ) → c < length cs → isFree (getD cs c (free 0)) ≡ true → member c fs ≡ true) → freeCount cs ≡ length fs
 unfolding member struck
 at-most [] cs d h m = none-free cs (λ c b f. false≢true (m c b f))
@@ -284,7 +284,7 @@ build zero cs a h = record { fs = []; chain = rw (eqb-true a 0 h) ends; len = re
 build (suc k) cs a h = built-more k cs a h (build k cs (link-of k cs a h .l) (link-of k cs a h .rest))
 
 -- the cells of a chain
-chain-free : {cs : List Cell} {a : ℕ} {fs : List ℕ} → Chain cs a fs → Distinct fs × All (FreeIn cs) fs
+pub chain-free : {cs : List Cell} {a : ℕ} {fs : List ℕ} → Chain cs a fs → Distinct fs × All (FreeIn cs) fs
 chain-free ends = (tt, tt)
 chain-free (on e b f r) = let t = chain-free r in ((f, t .0), (record { below = b; isFree = ap isFree e }, t .1))
 

@@ -27,11 +27,11 @@ pub record Each (Q : ℕ → Type 0) (cs : List ℕ) : Type 0 where
   pub once : Distinct cs
   pub all : All Q cs
 
-onto : (P : ℕ → Type 0) (xs r : List ℕ) → All P xs → All P r → All P (reverseAux xs r)
+pub onto : (P : ℕ → Type 0) (xs r : List ℕ) → All P xs → All P r → All P (reverseAux xs r)
 onto P [] r h k = k
 onto P (x ∷ xs) r h k = onto P xs (x ∷ r) (h .1) (h .0, k)
 
-back-from : (P : ℕ → Type 0) (xs r : List ℕ) → All P (reverseAux xs r) → All P xs × All P r
+pub back-from : (P : ℕ → Type 0) (xs r : List ℕ) → All P (reverseAux xs r) → All P xs × All P r
 back-from P [] r h = (tt, h)
 back-from P (x ∷ xs) r h = let t = back-from P xs (x ∷ r) h in ((t .1 .0, t .0), t .1 .1)
 

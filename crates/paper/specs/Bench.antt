@@ -184,7 +184,7 @@ table =
     ∷ case freeW0 256 million 16384 24 1 [] []
     ∷ case freeTwice 256 million 16384 22 3 [] []
     ∷ case (fiveCells 24) 256 million 16384 26 1 [] (walkOf 221 5 ∷ freeCells 4 ∷ [])
-    ∷ case (fiveCells 23) 256 million 16384 0 2 [] (walkOf 221 5 ∷ freeCells 0 ∷ [])
+    ∷ case (fiveCells 23) 256 million 16384 0 2 [] (walkOf 221 5 ∷ freeCells 0 ∷ symbIn (H 0) 251 ∷ walkOf 251 5 ∷ [])
     ∷ case namedTwice 256 million 16384 31 1 [] []
     -- our own: as loaded; the walk of an integer; the free order after an erasure
     ∷ case whole 256 0 16384 10 0 [] (freeCells 33 ∷ firstFree 223 ∷ symbIn (H 1) 221 ∷ symbIn (H 5) 25 ∷ [])

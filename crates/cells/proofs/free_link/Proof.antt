@@ -10,11 +10,13 @@ returns c = simp (by-kind freeLink (c .before .args .x), lt-ltb _ _ (c .if1 .tak
 
 returns-2 : tie.Need-returns-2
 returns-2 c =
-    simp (by-kind freeLink (c .before .before .args .x), le-ltb _ _ (c .before .if1 .left), lt-ltb _ _ (c .if2 .taken))
+    simp
+    (by-kind freeLink (c .before .before .args .x), le-ltb _ _ (c .before .if1 .left), lt-ltb _ _ (c .if2 .taken))
 
 returns-3 : tie.Need-returns-3
 returns-3 c =
-    simp (by-kind freeLink (c .before .before .args .x), le-ltb _ _ (c .before .if1 .left), le-ltb _ _ (c .if2 .left), cond-same)
+    simp
+    (by-kind freeLink (c .before .before .args .x), le-ltb _ _ (c .before .if1 .left), le-ltb _ _ (c .if2 .left), cond-same)
 
 pub free-link-spec : {M : Type 1} → statement M
 free-link-spec = tie.close (tie.spec returns (λ c. search needs) returns-2 returns-3)

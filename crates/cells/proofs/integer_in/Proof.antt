@@ -12,11 +12,18 @@ returns c = simp (by-kind integerIn (c .before .args .x), lt-ltb _ _ (c .if1 .ta
 
 returns-2 : tie.Need-returns-2
 returns-2 c =
-    simp (by-kind integerIn (c .before .before .args .x), le-ltb (c .before .before .args .x) (2 ^ 48) (omega arith), le-ltb _ _ (c .before .if1 .left), lt-ltb _ _ (c .if2 .taken))
+    simp (
+      by-kind integerIn (c .before .before .args .x),
+      le-ltb (c .before .before .args .x) (2 ^ 48) (omega arith),
+      le-ltb _ _ (c .before .if1 .left),
+      lt-ltb _ _
+          (c .if2 .taken),
+    )
 
 returns-3 : tie.Need-returns-3
 returns-3 c =
-    simp (by-kind integerIn (c .before .before .args .x), le-ltb _ _ (c .before .if1 .left), le-ltb _ _ (c .if2 .left), cond-same)
+    simp
+    (by-kind integerIn (c .before .before .args .x), le-ltb _ _ (c .before .if1 .left), le-ltb _ _ (c .if2 .left), cond-same)
 
 pub integer-in-spec : {M : Type 1} → statement M
 integer-in-spec = tie.close (tie.spec returns (λ c. search needs) returns-2 returns-3)

@@ -8,7 +8,8 @@ use Rattle.cells.proofs.is_integer.Tie as tie
 
 returns : tie.Need-returns
 returns c =
-    simp (by-kind isInteger (c .before .args .x), le-ltb (c .before .args .x) (2 ^ 48) (omega arith), le-ltb _ _ (c .if1 .taken), cond-same, cond-test)
+    simp
+    (by-kind isInteger (c .before .args .x), le-ltb (c .before .args .x) (2 ^ 48) (omega arith), le-ltb _ _ (c .if1 .taken), cond-same, cond-test)
 
 returns-2 : tie.Need-returns-2
 returns-2 c = simp (by-kind isInteger (c .before .args .x), lt-leb _ _ (c .if1 .left), lt-ltb _ _ (c .if1 .left), cond-same)

@@ -11,7 +11,13 @@ returns c = simp (by-kind isProcess (c .before .args .x), lt-ltb _ _ (c .if1 .ta
 
 returns-2 : tie.Need-returns-2
 returns-2 c =
-    simp (by-kind isProcess (c .before .args .x), le-ltb (c .before .args .x) (2 ^ 48) (omega arith), le-ltb (c .before .args .x) (2 * 2 ^ 48) (omega arith), le-ltb _ _ (c .if1 .left))
+    simp (
+      by-kind isProcess (c .before .args .x),
+      le-ltb (c .before .args .x) (2 ^ 48) (omega arith),
+      le-ltb (c .before .args .x) (2 * 2 ^ 48) (omega arith),
+      le-ltb _ _
+          (c .if1 .left),
+    )
 
 pub is-process-spec : {M : Type 1} → statement M
 is-process-spec = tie.close (tie.spec returns returns-2)

@@ -1,0 +1,33 @@
+use Rattle.acts.proofs.Once.{push-once}
+use Rattle.undo.proofs.Lines.{sees, bind, alike, puts}
+use Rattle.paper.specs.Act.{takeAs}
+use mathlib.Core.Path.{ap}
+use borrow.Author.Needs.{needs}
+use Rattle.acts.proofs.push.Statement.{statement}
+use Rattle.acts.proofs.push.Tie as tie
+
+returns : tie.Need-returns
+returns c =
+    let c₁ = c .before .before .before .before in
+    let c₂ = c₁ .before .before .before in
+    let c₃ = c₂ .before .before .before .before .before in
+    let c₄ = c₃ .before .before .before in
+    let c₅ = c₄ .before in
+    alike (push-once _)
+    (sees _ (c₅ .own .ensures)
+    (bind _ (alike (ap takeAs (c₄ .of-word .ensures .unpacks)) (c₃ .take-as .ensures))
+    (puts _ (c₂ .of-fields .ensures) (c₁ .put .ensures))))
+
+pub push-spec : {M : Type 1} → statement M
+push-spec =
+    tie.close
+    (tie.spec
+    (λ c κs. search needs)
+    (λ c κs. search needs)
+    (λ c κs. search needs)
+    (λ c. search needs)
+    (λ c κs. search needs)
+    (λ c κs. search needs)
+    (λ c. search needs)
+    (λ c. search needs)
+    returns)
