@@ -12,8 +12,10 @@ use lib.Seq.{getD-set-same, getD-set-other, set-set, set-comm, set-getD}
 use Rattle.paper.specs.declared.Symbol.{Symbol}
 use Rattle.paper.specs.declared.Refusal.{Refusal}
 use Rattle.paper.specs.declared.Refusal.the-variants.{FreeCell, WrongKind, NotToBeFreed, NothingBelow}
-use Rattle.paper.specs.Cell.{State, Region, Cell, free, word, integer, process, isFree, isWord, wordIn, Word, withLink, withCells, cellAt, endOfRegions, reservedIn, isHW, H}
-use Rattle.paper.specs.Act.{Act, done, refused, _>>=_, _>>_, ret, refuseIf, own, peek, put, reserved, touch, wordAt, hasBelow, pullUp, release, takeAs, ownRestore, pop, push, pops, gives}
+use Rattle.paper.specs.Cell.{State, Region, Cell, free, word, integer, process, isFree, isWord, wordIn, Word, withLink, withCells, cellAt}
+use Rattle.paper.specs.Cell.{endOfRegions, reservedIn, isHW, H}
+use Rattle.paper.specs.Act.{Act, done, refused, _>>=_, _>>_, ret, refuseIf, own, peek, put, reserved, touch, wordAt, hasBelow, pullUp, release}
+use Rattle.paper.specs.Act.{takeAs, ownRestore, pop, push, pops, gives}
 use Rattle.cells.specs.Bridge.{Rest, stateOf, cellIn}
 use Rattle.undo.specs.declared.Acted.{Acted}
 use Rattle.undo.specs.Did.{Did}

@@ -3,8 +3,10 @@
 ghost use mathlib.Core.Path.{_≡_};
 ghost use mathlib.Core.Bool.{_&&_, _||_};
 ghost use lib.Dec.{eqb};
-ghost use Rattle.paper.specs.Cell.{isHW, symbolOf};
-ghost use Rattle.paper.specs.Act.{own, touch, wordAt, integerAt, notOwn, named, readAt, takeAs, release, linkBelow, preserve, hasBelow, pullUp, restore, store, ownPreserve, ownRestore, ownStore, push, pop, below, pops, gives, symbolIn, symbolInThat, designate};
+ghost use Rattle.paper.specs.Cell.{isHW};
+ghost use Rattle.paper.specs.Act.{own, touch, wordAt, integerAt, notOwn, named, readAt, takeAs, release, linkBelow, preserve, hasBelow, pullUp};
+ghost use Rattle.paper.specs.Act.{restore, store, ownPreserve, ownRestore, ownStore, push, pop, below, pops, gives, symbolIn, symbolInThat};
+ghost use Rattle.paper.specs.Act.{designate};
 ghost use Rattle.cells.specs.Layout.{unpackOf, wordOf, valueOf};
 ghost use Rattle.cells.specs.Pack.{packOf};
 ghost use Rattle.undo.specs.Log.{Room};

@@ -1,6 +1,7 @@
 // A cell in one number (specs/Layout): read, tested, taken apart and made.
 ghost use mathlib.Core.Path.{_≡_};
-ghost use Rattle.paper.specs.Cell.{word, free, integer, process, mkWord, withLink, withSymbol, symbolOf, isFree, isWord, isInteger, isProcess, wordIn, integerIn, freeLink};
+ghost use Rattle.paper.specs.Cell.{word, free, integer, process, mkWord, withLink, withSymbol, symbolOf, isFree, isWord, isInteger, isProcess};
+ghost use Rattle.paper.specs.Cell.{wordIn, integerIn, freeLink};
 ghost use Rattle.cells.specs.Layout.{unpackOf, wordOf, valueOf};
 ghost use Rattle.cells.specs.Pack.{Packs, cellOf};
 ghost use Rattle.cells.specs.Bridge.{cellIn};

@@ -6,7 +6,7 @@ use Prim.Native.Nat.{ℕ, _≤_}
 use native.Mathlib.Omega.{arith}
 use lib.Dec.{eqb}
 use borrow.Author.Tests.{ne-eqb, lt-ltb, le-ltb}
-use Rattle.paper.specs.Cell.{local, internal, Word, Cell, free, word, integer, process, isFree, isWord, wordIn, endOfRegions, isHWJ, State}
+use Rattle.paper.specs.Cell.{Word, Cell, free, word, integer, process, isFree, isWord, wordIn, endOfRegions, isHWJ, State}
 use Rattle.paper.specs.Act.{done}
 use Rattle.paper.specs.Walk.{listNamed, linkIn, walkBack, renamed, copied}
 use Rattle.paper.specs.Process.{copyName}
@@ -58,13 +58,20 @@ module _ (ρ : ℕ → ℕ) (ρ0 : ρ 0 ≡ 0) where
 pub far-plain : (c : ℕ) → 221 ≤ c → (eqb c 0 ≡ false) × (isHWJ c ≡ false)
 far-plain c b = (ne-eqb c 0 (λ e. absurd (omega arith)), rw (lt-ltb 0 c (omega arith), le-ltb c 221 b))
 
--- the number in the name of a copy
+-- the number and the tag in the name of a copy
 name-number : (w : Word) (n : ℕ) → copyName w n .num ≡ n
-name-number w n = go (eqb (w .q) 2)
+name-number w n = go (eqb (w .q) 2) refl
   where
-    go : (b : Bool) → cond b (local n) (internal n) .num ≡ n
-    go true = refl
-    go false = refl
+    go : (b : Bool) → eqb (w .q) 2 ≡ b → copyName w n .num ≡ n
+    go true e = rw (e, cond)
+    go false e = rw (e, cond)
+
+name-tag : (w : Word) (n : ℕ) → copyName w n .tag ≡ cond (eqb (w .q) 2) 2 4
+name-tag w n = go (eqb (w .q) 2) refl
+  where
+    go : (b : Bool) → eqb (w .q) 2 ≡ b → copyName w n .tag ≡ cond (eqb (w .q) 2) 2 4
+    go true e = rw (e, cond)
+    go false e = rw (e, cond)
 
 module _ {F : Frame} {h : Word} {fs : List ℕ} {s t : State} {v : Word} (i : Sound F s) (l : Listed F h fs s) (c : CopyDone i l v t) where
   abbrev ρ : ℕ → ℕ
@@ -83,6 +90,9 @@ module _ {F : Frame} {h : Word} {fs : List ℕ} {s t : State} {v : Word} (i : So
 
   pub number-is : top t .symb ≡ ρ (top s .symb)
   number-is = ap (λ x. wordIn x .symb) (c .holds) ∙ name-number (top s) (ρ (top s .symb))
+
+  pub tag-is : top t .q ≡ cond (eqb (top s .q) 2) 2 4
+  tag-is = ap (λ x. wordIn x .q) (c .holds) ∙ name-tag (top s) (ρ (top s .symb))
 
   -- an old cell and its copy
   record Twin (o : ℕ) : Type 0 where

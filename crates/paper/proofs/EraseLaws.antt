@@ -49,7 +49,8 @@ module _ {F : Frame} {h : Word} {fs : List ℕ} {s : State} (i : Listed F h fs s
       let e : eraseBack back s ≡ releaseAll back s = rw (none-goes F {s = s} (reverse back) (i .regions) (onto _ back [] all tt), _>>_) in
       goes-as e (free-all F back i d u)
 
-  pub erase-goes : {back : List ℕ} {v : Word} → isFree (at s 1) ≡ false → Erasable F s back v → Goes (erases back) s (λ _ t. Gone F h fs (top s .link) back v s t)
+  pub erase-goes : {back : List ℕ} {v : Word} → isFree (at s 1) ≡ false → Erasable F s back v
+      → Goes (erases back) s (λ _ t. Gone F h fs (top s .link) back v s t)
   unfolding erases
   erase-goes {back} {v} u e = goes-seq (back-goes back (e .once) (e .inUse)) λ _ t p.
       let same = H0-same back (e .inUse) (p .1) in
@@ -59,10 +60,12 @@ module _ {F : Frame} {h : Word} {fs : List ℕ} {s : State} (i : Listed F h fs s
       record { listed = rw l at (q .listed); holds = q .holds; moved = moved-then (p .1) (rw l at (q .moved)) }
 
   -- back was met in use, once each: what an accepted erasure of it asks
-  back-asks : (back : List ℕ) → Distinct back → All (Used s) back → Safe (From s) (λ _. All (InUse F s) back) (λ _ t. Freed F h fs back s t) (eraseBack back)
+  back-asks : (back : List ℕ) → Distinct back → All (Used s) back
+      → Safe (From s) (λ _. All (InUse F s) back) (λ _ t. Freed F h fs back s t) (eraseBack back)
   unfolding eraseBack
   back-asks back d u = seq (none-asks F (reverse back) (i .regions) (onto _ back [] (all-map _ _ back (λ c k. k .nonzero) u) tt)) λ _ o.
-      let k : All (InUse F s) back = all-map _ _ back (λ c p. record { kept = p .0 .kept; ours = p .1 }) (all-both _ _ back u (back-from _ back [] o .0)) in
+      let both = all-both _ _ back u (back-from _ back [] o .0) in
+      let k : All (InUse F s) back = all-map _ _ back (λ c p. record { kept = p .0 .kept; ours = p .1 }) both in
       goes-safe (λ _. k) (free-all F back i d k)
 
   -- a cell that is in use after cells were freed is none of them

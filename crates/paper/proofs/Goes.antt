@@ -10,11 +10,13 @@ pub record Goes {S E A : Type 0} (m : Step S E A) (s : S) (Q : A → S → Type 
   pub so : Q value state
 
 module _ {S E : Type 0} where
-  pub goes-bind : {A B : Type 0} {m : Step S E A} {f : A → Step S E B} {s : S} {P : A → S → Type 0} {Q : B → S → Type 0} → Goes m s P → ((a : A) (t : S) → P a t → Goes (f a) t Q) → Goes (m >>= f) s Q
+  pub goes-bind : {A B : Type 0} {m : Step S E A} {f : A → Step S E B} {s : S} {P : A → S → Type 0} {Q : B → S → Type 0} → Goes m s P
+      → ((a : A) (t : S) → P a t → Goes (f a) t Q) → Goes (m >>= f) s Q
   unfolding _>>=_
   goes-bind g k = let r = k (g .value) (g .state) (g .so) in record { value = r .value; state = r .state; is = rw (g .is, _>>=_) (r .is); so = r .so }
 
-  pub goes-seq : {A B : Type 0} {m : Step S E A} {n : Step S E B} {s : S} {P : A → S → Type 0} {Q : B → S → Type 0} → Goes m s P → ((a : A) (t : S) → P a t → Goes n t Q) → Goes (m >> n) s Q
+  pub goes-seq : {A B : Type 0} {m : Step S E A} {n : Step S E B} {s : S} {P : A → S → Type 0} {Q : B → S → Type 0} → Goes m s P
+      → ((a : A) (t : S) → P a t → Goes n t Q) → Goes (m >> n) s Q
   unfolding _>>_
   goes-seq g k = let r = k (g .value) (g .state) (g .so) in record { value = r .value; state = r .state; is = rw (g .is, _>>_) (r .is); so = r .so }
 

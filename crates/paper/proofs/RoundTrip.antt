@@ -28,7 +28,8 @@ use Rattle.paper.proofs.StructureLaws.{met-once, CopyDone, J72-goes, J7
 use Rattle.paper.proofs.CopyWalk.{far-plain, news-once, copy-in-use, copy-walk}
 
 -- cell n is taken below H0, and the structure that H0 names is met in s
-module _ {F : Frame} {h : Word} {n : ℕ} {fs : List ℕ} {s : State} (i : Sound F s) (l : Listed F h (n ∷ fs) s) {back : List ℕ} (e : walkBack (top s .symb) s ≡ done back s) where
+module _ {F : Frame} {h : Word} {n : ℕ} {fs : List ℕ} {s : State} (i : Sound F s) (l : Listed F h (n ∷ fs) s)
+    {back : List ℕ} (e : walkBack (top s .symb) s ≡ done back s) where
   H0-plain : eqb (top s .q) 1 ≡ false
   H0-plain = let o = its F 1 i (omega arith) in ne-eqb (top s .q) 1 (λ q. o .good .q≢1 (omega arith) (ap (λ x. wordIn x .q) (sym (o .is)) ∙ q))
 

@@ -34,11 +34,13 @@ module _ {s : State} where
   r-chain : (n c : ℕ) (seen : List ℕ) → Reads s Any (chain n c seen)
   unfolding chain
   r-chain zero c seen = safe-refuse _
-  r-chain (suc n) c seen = bind (r-named c) λ w _. seq (safe-refuseIf _ _) λ _ _. safe-ifThen _ (λ _. reads-ret _ tt) (λ _. r-chain n (w .link) (c ∷ seen))
+  r-chain (suc n) c seen = bind (r-named c) λ w _. seq (safe-refuseIf _ _) λ _ _.
+      safe-ifThen _ (λ _. reads-ret _ tt) (λ _. r-chain n (w .link) (c ∷ seen))
 
   r-chainBack : (c : ℕ) → Reads s Any (chainBack c)
   unfolding chainBack sized
-  r-chainBack c = bind (r-touch c) λ x _. safe-ifThen _ (λ _. reads-ret _ tt) (λ _. record { at = λ u e. rw e (r-chain (suc (length (s .cells))) c [] .at s refl) })
+  r-chainBack c = bind (r-touch c) λ x _.
+      safe-ifThen _ (λ _. reads-ret _ tt) (λ _. record { at = λ u e. rw e (r-chain (suc (length (s .cells))) c [] .at s refl) })
 
 s-met : {F : Frame} (c : ℕ) → Safe (Ok F []) (Each (λ c. c ≢ 0)) (λ out. Ok F out) (walkBack c)
 s-met c = knows (λ out w. record { once = w .once; all = all-map _ _ out (λ c b e. absurd (omega arith)) (w .all) }) (s-walkBack c)
@@ -56,7 +58,9 @@ module _ {F : Frame} {s : State} (i : Sound F s) where
 
   -- what an accepted walk says of the cells that it met
   pub met-once : (c : ℕ) {back : List ℕ} → walkBack c s ≡ done back s → Distinct back × All (λ c. (isFree (at s c) ≡ false) × (221 ≤ c)) back
-  met-once c {back} e = let (o, w) = when-done (s-walkBack c) s s back ok e in (w .once, all-both _ _ back (all-map _ _ back (λ c u. u .kept) (o .used)) (w .all))
+  met-once c {back} e =
+      let (o, w) = when-done (s-walkBack c) s s back ok e in
+      (w .once, all-both _ _ back (all-map _ _ back (λ c u. u .kept) (o .used)) (w .all))
 
 module _ {F : Frame} {h : Word} {fs : List ℕ} {s : State} (i : Sound F s) (l : Listed F h fs s) where
   -- the cells that m meets are erased
@@ -67,7 +71,8 @@ module _ {F : Frame} {h : Word} {fs : List ℕ} {s : State} (i : Sound F s) (l :
     pub asked : Erasable F s back v
     pub gone : Gone F h fs (top s .link) back v s t
 
-  erased : (m : Act (List ℕ)) → Safe (Ok F []) (Each (λ c. c ≢ 0)) (λ out. Ok F out) m → Reads s Any m → Safe (From s) Any (λ _ t. Erasure m t) (m >>= erases)
+  erased : (m : Act (List ℕ)) → Safe (Ok F []) (Each (λ c. c ≢ 0)) (λ out. Ok F out) m → Reads s Any m
+      → Safe (From s) Any (λ _ t. Erasure m t) (m >>= erases)
   erased m h r = bind (noted r) λ back k.
       let (o, e) = when-done h s s back (ok i) (k .1) in
       asks-goes (erase-asks l back (e .once) (o .used)) λ a.
@@ -81,7 +86,8 @@ module _ {F : Frame} {h : Word} {fs : List ℕ} {s : State} (i : Sound F s) (l :
   unfolding J72 primOpen
   J72-erases t e = when-done (erased (walkBack (top s .symb)) (s-met _) (knows (λ _ _. tt) (r-walkBack _))) s t tt refl e .0
 
-  pub J72-goes : {back : List ℕ} {v : Word} → walkBack (top s .symb) s ≡ done back s → Erasable F s back v → Goes J72 s (λ _ t. Gone F h fs (top s .link) back v s t)
+  pub J72-goes : {back : List ℕ} {v : Word} → walkBack (top s .symb) s ≡ done back s → Erasable F s back v
+      → Goes J72 s (λ _ t. Gone F h fs (top s .link) back v s t)
   unfolding J72 primOpen
   J72-goes {back} m e = let p : J72 s ≡ erases back s = rw (m, _>>=_) in goes-as p (erase-goes l (H0-kept i) e)
 
@@ -101,7 +107,8 @@ module _ {F : Frame} {h : Word} {fs : List ℕ} {s : State} (i : Sound F s) (l :
     pub made : Made F h fs (reverse back) news (1 ∷ news) s t
     pub holds : at t 1 ≡ word (withSymbol (withLink v (top s .link)) (copyName (top s) (renamed (reverse back) news (top s .symb))))
 
-  fill-so : {back : List ℕ} → walkBack (top s .symb) s ≡ done back s → length (reverse back) ≤ length fs → Goes (fill (top s .symb) (reverse back)) s CopyMade
+  fill-so : {back : List ℕ} → walkBack (top s .symb) s ≡ done back s → length (reverse back) ≤ length fs
+      → Goes (fill (top s .symb) (reverse back)) s CopyMade
   fill-so {back} e n =
       let (d, u) = met-once i (top s .symb) e in
       let k : Copyable s fs (reverse back) = record { once = distinct-reverse back d; used = onto _ back [] u tt; enough = n } in
@@ -125,7 +132,8 @@ module _ {F : Frame} {h : Word} {fs : List ℕ} {s : State} (i : Sound F s) (l :
 
   copy-safe : Safe (From s) Any CopyMade (copy (top s .symb))
   unfolding copy
-  copy-safe = bind (noted (r-walkBack (top s .symb))) λ back k. asks-goes (bind (take-asks F (reverse back) fs l) λ ns n. asks-known n) (fill-so (k .1))
+  copy-safe = bind (noted (r-walkBack (top s .symb))) λ back k.
+      asks-goes (bind (take-asks F (reverse back) fs l) λ ns n. asks-known n) (fill-so (k .1))
 
   copy-goes : {back : List ℕ} → walkBack (top s .symb) s ≡ done back s → length (reverse back) ≤ length fs → Goes (copy (top s .symb)) s CopyMade
   unfolding copy _>>=_
@@ -144,6 +152,7 @@ module _ {F : Frame} {h : Word} {fs : List ℕ} {s : State} (i : Sound F s) (l :
   unfolding J74 primOpen
   J74-copies t e = when-done copying-safe s t tt refl e .0
 
-  pub J74-goes : {back : List ℕ} {v : Word} → walkBack (top s .symb) s ≡ done back s → length (reverse back) ≤ length fs → Below F s v → Goes J74 s (λ _ t. CopyDone v t)
+  pub J74-goes : {back : List ℕ} {v : Word} → walkBack (top s .symb) s ≡ done back s → length (reverse back) ≤ length fs → Below F s v
+      → Goes J74 s (λ _ t. CopyDone v t)
   unfolding J74 primOpen
   J74-goes e n b = let p : J74 s ≡ copying (top s) s = refl in goes-as p (copying-goes e n b)

@@ -9,14 +9,16 @@ use native.Mathlib.Decide.{ℕ-discrete}
 use lib.Dec.{eqb}
 use borrow.Author.Tests.{eqb-false, ne-eqb, le-ltb, lt-ltb}
 use Rattle.paper.specs.Cell.{Symbol, Word, withLink, withSymbol, word, isFree, wordIn, endOfRegions, reservedIn, State, withCells}
-use Rattle.paper.specs.Act.{Res, Refusal, done, _>>=_, _>>_, release, linkBelow, named, notOwn, preserve, hasBelow, pullUp, ownPreserve, ownRestore, ownStore, push, pop, pops, gives, primOpen}
+use Rattle.paper.specs.Act.{Res, Refusal, done, _>>=_, _>>_, release, linkBelow, named, notOwn, preserve, hasBelow, pullUp, ownPreserve}
+use Rattle.paper.specs.Act.{ownRestore, ownStore, push, pop, pops, gives, primOpen}
 use Rattle.paper.specs.Walk.{member}
 use Rattle.paper.proofs.Safe.{bind, seq, safe-refuseIf}
 use Rattle.paper.proofs.SoundStore.{Frame, at}
 use Rattle.paper.proofs.ActLaws.{unreserved}
 use Rattle.paper.proofs.Goes.{Goes, goes-seq, goes-ret, goes-to, goes-as, goes-on, Asks, asks-known}
 use Rattle.paper.proofs.ReadLaws.{word-is, r-own, r-reserved, r-wordAt}
-use Rattle.paper.proofs.FreeList.{Moved, moved-on, moved-then, moved-in, Listed, InUse, Wrote, written, write, taken, take-is, take, free-is, free-listed, free-moved, no-H, same-ours}
+use Rattle.paper.proofs.FreeList.{Moved, moved-on, moved-then, moved-in, Listed, InUse, Wrote, written, write, taken, take-is, take, free-is}
+use Rattle.paper.proofs.FreeList.{free-listed, free-moved, no-H, same-ours}
 use Rattle.paper.proofs.CellLists.{off-one, off-cons, not-first}
 
 -- the word in H0
@@ -80,7 +82,8 @@ module _ {F : Frame} {h : Word} {fs : List ℕ} {s : State} where
       let n = top s .link in
       let n1 : n ≢ 1 = no-H F n 1 (b .ours) (omega arith) in
       let w = write 1 (word v) i (omega arith) u in
-      let k : InUse F (written s 1 (word v)) n = record { kept = ap isFree (same-ours F (w .moved) n (b .ours) (off-one n 1 n1) ∙ b .holds); ours = b .ours } in
+      let same = same-ours F (w .moved) n (b .ours) (off-one n 1 n1) ∙ b .holds in
+      let k : InUse F (written s 1 (word v)) n = record { kept = ap isFree same; ours = b .ours } in
       let m = free-moved n (w .listed) k in
       goes-to (pop-is F s v _ (i .regions) b (free-is n (w .listed) k)) (record {
         listed = free-listed n (w .listed) k;
@@ -89,7 +92,8 @@ module _ {F : Frame} {h : Word} {fs : List ℕ} {s : State} where
       })
 
   -- a new cell below H0, with v in it
-  link-goes : {n : ℕ} (w v : Word) → Listed F h (n ∷ fs) s → isFree (at s 1) ≡ false → Goes (linkBelow 1 w v) s (λ _ t. Pushed F h fs n v (withLink w n) s t)
+  link-goes : {n : ℕ} (w v : Word) → Listed F h (n ∷ fs) s → isFree (at s 1) ≡ false
+      → Goes (linkBelow 1 w v) s (λ _ t. Pushed F h fs n v (withLink w n) s t)
   unfolding linkBelow primOpen
   link-goes {n} w v i u =
       let n1 : n ≢ 1 = no-H F n 1 (i .ours .0) (omega arith) in
@@ -104,17 +108,20 @@ module _ {F : Frame} {h : Word} {fs : List ℕ} {s : State} where
         moved = moved-in (swapped n) (moved-then (p .moved) (q .moved));
       })
 
-  pub preserve-goes : {n : ℕ} → Listed F h (n ∷ fs) s → at s 1 ≡ word (top s) → Goes (preserve 1) s (λ _ t. Pushed F h fs n (top s) (withLink (top s) n) s t)
+  pub preserve-goes : {n : ℕ} → Listed F h (n ∷ fs) s → at s 1 ≡ word (top s)
+      → Goes (preserve 1) s (λ _ t. Pushed F h fs n (top s) (withLink (top s) n) s t)
   unfolding preserve named notOwn primOpen
   preserve-goes i e =
       let p : preserve 1 s ≡ linkBelow 1 (top s) (top s) s = rw (word-is s 1 (top s) refl e, _>>=_) in
       goes-as p (link-goes (top s) (top s) i (ap isFree e))
 
-  keep-goes : {n : ℕ} → Listed F h (n ∷ fs) s → isFree (at s 1) ≡ false → Goes (ownPreserve 1) s (λ _ t. Pushed F h fs n (top s) (withLink (top s) n) s t)
+  keep-goes : {n : ℕ} → Listed F h (n ∷ fs) s → isFree (at s 1) ≡ false
+      → Goes (ownPreserve 1) s (λ _ t. Pushed F h fs n (top s) (withLink (top s) n) s t)
   unfolding ownPreserve primOpen
   keep-goes i u = goes-as refl (link-goes (top s) (top s) i u)
 
-  store-goes : (x : Symbol) → Listed F h fs s → isFree (at s 1) ≡ false → Goes (ownStore 1 x) s (λ _ t. Wrote F h fs 1 (word (withSymbol (top s) x)) s t)
+  store-goes : (x : Symbol) → Listed F h fs s → isFree (at s 1) ≡ false
+      → Goes (ownStore 1 x) s (λ _ t. Wrote F h fs 1 (word (withSymbol (top s) x)) s t)
   unfolding ownStore primOpen
   store-goes x i u = goes-to refl (write 1 (word (withSymbol (top s) x)) i (omega arith) u)
 
@@ -130,21 +137,24 @@ module _ {F : Frame} {h : Word} {fs : List ℕ} {s : State} where
   }
 
 -- a pop and then a push: H0 alone has changed
-module _ {F : Frame} {h : Word} {fs : List ℕ} {s : State} {v : Word} (x : Symbol) (i : Listed F h fs s) (u : isFree (at s 1) ≡ false) (b : Below F s v) where
+module _ {F : Frame} {h : Word} {fs : List ℕ} {s : State} {v : Word} (x : Symbol)
+    (i : Listed F h fs s) (u : isFree (at s 1) ≡ false) (b : Below F s v) where
   abbrev c : ℕ
   c = top s .link
 
-  unchanged : {t t′ : State} {w : Word} (k : ℕ) → k ≢ 3 → k ≢ 1 → Popped F h fs c v s t → Pushed F h fs c (top t) w t t′ → Dec (k ≡ c) → at t′ k ≡ at s k
+  unchanged : {t t′ : State} {w : Word} (k : ℕ) → k ≢ 3 → k ≢ 1 → Popped F h fs c v s t → Pushed F h fs c (top t) w t t′ → Dec (k ≡ c)
+      → at t′ k ≡ at s k
   unchanged k h m p q (yes e) = rw e (q .below ∙ ap (λ y. word (wordIn y)) (p .holds) ∙ sym (b .holds))
   unchanged k h m p q (no e) = let o = off-cons k 1 (c ∷ []) m (off-one k c e) in q .moved .same k h o ∙ p .moved .same k h o
 
   pub gives-goes : Goes (gives 1 x) s (λ _ t. Wrote F h fs 1 (word (withSymbol (withLink v c) x)) s t)
   unfolding gives pops
-  gives-goes = goes-seq (goes-seq (pop-goes i u b) λ _ t p. goes-ret tt p) λ _ t p. goes-on (push-goes x (p .listed) (ap isFree (p .holds))) λ _ t′ q. record {
-    listed = q .listed;
-    holds = q .holds ∙ ap (λ y. word (withSymbol (withLink (wordIn y) c) x)) (p .holds);
-    moved = record {
-      rest = q .moved .rest ∙ ap (λ y. withCells y (t′ .cells)) (p .moved .rest);
-      same = λ k h m. unchanged k h (not-first k 1 [] m .0) p q (ℕ-discrete k c);
-    };
-  }
+  gives-goes = goes-seq (goes-seq (pop-goes i u b) λ _ t p. goes-ret tt p) λ _ t p.
+      goes-on (push-goes x (p .listed) (ap isFree (p .holds))) λ _ t′ q. record {
+        listed = q .listed;
+        holds = q .holds ∙ ap (λ y. word (withSymbol (withLink (wordIn y) c) x)) (p .holds);
+        moved = record {
+          rest = q .moved .rest ∙ ap (λ y. withCells y (t′ .cells)) (p .moved .rest);
+          same = λ k h m. unchanged k h (not-first k 1 [] m .0) p q (ℕ-discrete k c);
+        };
+      }

@@ -47,7 +47,8 @@ module _ {s : State} where
   r-along (suc n) d b c seen =
       bind (r-meet b d c seen) λ x k.
       bind (r-next (listNamed x) (c ∷ seen) (r-along n (suc d) false (listNamed x) (c ∷ seen))) λ inner v.
-      knows (λ out w. (k .1 .nonzero, some {inner = inner} (k .1) (rw (← (k .0)) v) (rw (← (k .0)) w))) (r-next (linkIn x) inner (r-along n d true (linkIn x) inner))
+      knows (λ out w. (k .1 .nonzero, some {inner = inner} (k .1) (rw (← (k .0)) v) (rw (← (k .0)) w)))
+      (r-next (linkIn x) inner (r-along n d true (linkIn x) inner))
 
   -- the walk of X
   pub r-walkBack : (c : ℕ) → Reads s (λ back. (eqb c 0 ≡ false) × Walk s (suc (length (s .cells))) 1 false c [] back) (walkBack c)
@@ -59,7 +60,8 @@ module _ {s : State} where
   meet-is k = rw (k .nonzero, k .kept, k .plain, k .kind, k .new, _>>=_, _>>_)
 
   -- what is walked is walked again
-  pub walk-is : {n d : ℕ} {b : Bool} {c : ℕ} {seen out : List ℕ} → Walk s n d b c seen out → ifThen (eqb c 0) (ret seen) (along n d b c seen) s ≡ done out s
+  pub walk-is : {n d : ℕ} {b : Bool} {c : ℕ} {seen out : List ℕ} → Walk s n d b c seen out
+      → ifThen (eqb c 0) (ret seen) (along n d b c seen) s ≡ done out s
   unfolding along primOpen
   walk-is none = refl
   walk-is (some k v w) = let p = walk-is v in let q = walk-is w in rw (k .nonzero, meet-is k, p, _>>=_, ifThen) q
@@ -76,7 +78,8 @@ module _ {s : State} where
       let (ys, q) = walk-ends w in
       (ys ++ xs ++ (c ∷ []), q ∙ ap (λ zs. ys ++ zs) p ∙ simp append-assoc)
 
-  walk-first : {n d : ℕ} {b : Bool} {c : ℕ} {seen out : List ℕ} → eqb c 0 ≡ false → Walk s n d b c seen out → (more : List ℕ) × (out ≡ more ++ (c ∷ seen))
+  walk-first : {n d : ℕ} {b : Bool} {c : ℕ} {seen out : List ℕ} → eqb c 0 ≡ false → Walk s n d b c seen out
+      → (more : List ℕ) × (out ≡ more ++ (c ∷ seen))
   walk-first z none = never _ refl z
   walk-first {c = c} {seen} z (some k v w) =
       let (xs, p) = walk-ends v in
@@ -114,7 +117,13 @@ module _ (s t : State) (ρ : ℕ → ℕ) (ρ0 : ρ 0 ≡ 0) where
       let p = walk-renamed v (q .alike) (q .once) in
       let l = p .alike .0 in
       let shallow : ltb 64 depth ≡ false = or-false (member c seen) (ltb 64 depth) (k .new) .1 in
-      let m : Met t b depth (ρ c) (map ρ seen) = record { nonzero = l .nonzero; kept = l .kept; plain = l .plain; kind = rw (l .kind) (k .kind); new = rw (p .once .0) shallow } in
+      let m : Met t b depth (ρ c) (map ρ seen) = record {
+        nonzero = l .nonzero;
+        kept = l .kept;
+        plain = l .plain;
+        kind = rw (l .kind) (k .kind);
+        new = rw (p .once .0) shallow;
+      } in
       record {
         walk = some {n = n} {inner = map ρ inner} {out = map ρ out} m (rw (l .list) (p .walk)) (rw (l .link) (q .walk));
         begins = λ _. l .nonzero;

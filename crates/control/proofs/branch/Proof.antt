@@ -1,0 +1,32 @@
+use Rattle.undo.proofs.Lines.{sees, yes, else, most, give}
+use Rattle.paper.specs.Cycle.{branch}
+use borrow.Author.Tests.{eq-eqb, ne-eqb}
+use native.Mathlib.Omega.{arith}
+use borrow.Author.Needs.{needs}
+use Rattle.control.proofs.branch.Statement.{statement}
+use Rattle.control.proofs.branch.Tie as tie
+
+returns : tie.Need-returns
+unfolding branch
+returns c =
+    let c₁ = c .before .before .before .before in
+    let c₂ = c₁ .before .before .before in
+    let c₃ = c₂ .before in
+    sees _ (c₃ .own .ensures) (yes _ (eq-eqb _ _ (c₂ .if1 .taken)) (c₁ .go-to .ensures))
+
+returns-2 : tie.Need-returns-2
+unfolding branch
+returns-2 c = sees _ (c .before .own .ensures) (else _ (ne-eqb _ _ (c .if1 .left)) (most 1 (omega arith) give))
+
+pub branch-spec : {M : Type 1} → statement M
+branch-spec =
+    tie.close
+    (tie.spec
+    (λ c κs. search needs)
+    (λ c. search needs)
+    (λ c κs. search needs)
+    (λ c. search needs)
+    (λ c. search needs)
+    returns
+    (λ c. search needs)
+    returns-2)

@@ -1,0 +1,17 @@
+use Rattle.undo.proofs.Lines.{sees, any}
+use Rattle.undo.proofs.Leaves.{naming}
+use Rattle.paper.specs.Cycle.{toLink}
+use borrow.Author.Needs.{needs}
+use Rattle.control.proofs.to_link.Statement.{statement}
+use Rattle.control.proofs.to_link.Tie as tie
+
+returns : tie.Need-returns
+unfolding toLink
+returns c =
+    let c₁ = c .before .before .before .before in
+    let c₂ = c₁ .before .before .before in
+    sees _ (naming _ _ _ (c₂ .name-of .ensures)) (any (c₁ .own-store .ensures))
+
+pub to-link-spec : {M : Type 1} → statement M
+to-link-spec =
+    tie.close (tie.spec (λ c κs. search needs) (λ c κs. search needs) (λ c. search needs) (λ c. search needs) returns)

@@ -1,0 +1,2 @@
+-- What a process that may print has done, and its line.
+pub mod Ran

@@ -1,0 +1,2 @@
+-- Laws that the proofs of the list processes cite.
+pub mod Words

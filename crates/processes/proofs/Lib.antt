@@ -1,0 +1,3 @@
+-- Laws that the proofs of the processes cite.
+pub mod Each
+pub mod Pops

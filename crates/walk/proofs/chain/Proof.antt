@@ -1,0 +1,58 @@
+use mathlib.Core.Path.{_≡_, refl, sym, _∙_}
+use native.Mathlib.Omega.{arith}
+use borrow.Author.Needs.{needs}
+use Rattle.walk.proofs.Scratch.{clean-holds, clean-turns, holds-more, seen-more, ordered-none, ends-clears, ends-lists}
+use Rattle.walk.proofs.Turn.{chain-not, chain-new, chain-one, chain-long}
+use Rattle.walk.proofs.chain.Statement.{statement}
+use Rattle.walk.proofs.chain.Tie as tie
+
+returns : tie.Need-returns
+returns c =
+    let l = c .before .before .before .before .pre in
+    record {
+      says = chain-not _ (c .before .before .touch .ensures) (c .enum-told2 .given .1);
+      few = omega arith;
+      ordered = ordered-none (l .sized);
+      unmarked = l .unmarked;
+    }
+
+returns-2 : tie.Need-returns-2
+returns-2 c =
+    let c₁ = c .before .before in
+    let c₂ = c₁ .before .before in
+    let l = c₂ .before .before .pre in
+    let m = c₂ .touch .ensures in
+    let p = c₁ .enum-told .given .1 in
+    let w = chain-new _ m p (c₂ .before .before .args .order .now) in
+    record {
+      says = chain-one _ m p (sym (c .before .is-integer .ensures) ∙ c .if1 .taken) (sym (seen-more (clean-holds l) _ w));
+      few = omega (arith, w .0);
+      ordered = holds-more (clean-holds l) _ w .ordered;
+      unmarked = l .unmarked;
+    }
+
+returns-3 : tie.Need-returns-3
+returns-3 c =
+    let c₁ = c .before .before .before in
+    let c₂ = c₁ .before .before .before in
+    let c₃ = c₂ .before .before in
+    let c₄ = c₃ .before .before in
+    let e = c₁ .chain-links .ensures in
+    ends-lists e (c .clear .ensures)
+    (chain-long _ (c₄ .touch .ensures) (c₃ .enum-told .given .1) (sym (c₂ .before .is-integer .ensures) ∙ c₂ .if1 .left)
+    (e .says _ (clean-turns (c₄ .before .before .pre))))
+
+pub chain-spec : {M : Type 1} → statement M
+chain-spec =
+    tie.close
+    (tie.spec
+    (λ c κs. search needs)
+    (λ c. search needs)
+    (λ c. search needs)
+    returns
+    (λ c κs. search needs)
+    (λ c. search needs)
+    returns-2
+    (λ c κs. clean-holds (c .before .before .before .before .before .before .before .before .pre))
+    (λ c κs. ends-clears (c .before .before .chain-links .ensures))
+    returns-3)

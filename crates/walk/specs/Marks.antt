@@ -1,0 +1,47 @@
+-- The order: the cells that a walk has met, one after another. The marks: a number for each cell, 0 where it has not been met.
+use Prim.Native.Nat.{ℕ, zero, suc, _+_, _<_, _≤_}
+use mathlib.Core.Path.{_≡_}
+use mathlib.Core.Bool.{true, false, cond, not}
+use mathlib.Core.List.{List, [], _∷_, reverse}
+use lib.ListN.{length, getD, take, replicate}
+use lib.Dec.{eqb}
+use Rattle.paper.specs.Walk.{member}
+
+-- the first n of the order, last first: what the definitions call `seen`
+abbrev pub back : ℕ → List ℕ → List ℕ
+back n order = reverse (take n order)
+
+abbrev pub blank : List ℕ
+blank = replicate 16384 0
+
+-- no cell twice
+abbrev pub Once : List ℕ → Type 0
+Once [] = Unit {0}
+Once (c ∷ cs) = (member c cs ≡ false) × Once cs
+
+-- the cells of `seen` are marked, and no others; no others are
+pub record Marked (marks seen : List ℕ) : Type 0 where
+  pub is : (c : ℕ) → not (eqb (getD marks c 0) 0) ≡ member c seen
+
+pub record Only (marks seen : List ℕ) : Type 0 where
+  pub is : (c : ℕ) → member c seen ≡ false → getD marks c 0 ≡ 0
+
+-- how many of the first k cells have no mark
+unfoldable pub unmet : ℕ → List ℕ → ℕ
+unmet zero m = 0
+unmet (suc k) [] = 0
+unmet (suc k) (x ∷ xs) = cond (eqb x 0) 1 0 + unmet k xs
+
+-- the first n of the order are cells of the numbers s, each once
+pub record Ordered (s order : List ℕ) (n : ℕ) : Type 0 where
+  pub sized : length order ≡ 16384
+  pub inside : (k : ℕ) → k < n → getD order k 0 < length s
+  pub once : Once (back n order)
+
+-- the marks are at the first n of the order, and can be taken away there
+pub record Clears (order marks : List ℕ) (n : ℕ) : Type 0 where
+  pub few : n ≤ 16384
+  pub sized : length order ≡ 16384
+  pub wide : length marks ≡ 16384
+  pub inside : (k : ℕ) → k < n → getD order k 0 < 16384
+  pub only : Only marks (back n order)
