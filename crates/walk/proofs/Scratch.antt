@@ -64,8 +64,11 @@ holds-as {s} {order} {marks} {order′} {marks′} {n} p q h = subst (λ o. Hold
 pub ordered-none : {s order : List ℕ} → length order ≡ 16384 → Ordered s order 0
 ordered-none h = record { sized = h; inside = λ k l. absurd (omega arith); once = tt }
 
-blank-wide : {marks : List ℕ} → marks ≡ blank → length marks ≡ 16384
+pub blank-wide : {marks : List ℕ} → marks ≡ blank → length marks ≡ 16384
 blank-wide m = ap length m ∙ length-replicate {A = ℕ} 16384 0
+
+pub only-blank : {marks : List ℕ} → marks ≡ blank → Only marks []
+only-blank m = subst (λ t. Only t []) (sym m) (marked-only marked-none)
 
 clears-none : {order marks : List ℕ} → length order ≡ 16384 → marks ≡ blank → Clears order marks 0
 clears-none h m = record {
@@ -73,7 +76,7 @@ clears-none h m = record {
   sized = h;
   wide = blank-wide m;
   inside = λ k l. absurd (omega arith);
-  only = subst (λ t. Only t []) (sym m) (marked-only marked-none);
+  only = only-blank m;
 }
 
 module _ {s order marks : List ℕ} where

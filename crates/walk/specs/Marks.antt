@@ -1,7 +1,7 @@
 -- The order: the cells that a walk has met, one after another. The marks: a number for each cell, 0 where it has not been met.
 use Prim.Native.Nat.{ℕ, zero, suc, _+_, _<_, _≤_}
 use mathlib.Core.Path.{_≡_}
-use mathlib.Core.Bool.{true, false, cond, not}
+use mathlib.Core.Bool.{false, cond, not}
 use mathlib.Core.List.{List, [], _∷_, reverse}
 use lib.ListN.{length, getD, take, replicate}
 use lib.Dec.{eqb}

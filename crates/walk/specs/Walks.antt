@@ -5,7 +5,6 @@ use mathlib.Core.Bool.{Bool, false}
 use mathlib.Core.List.{List}
 use lib.ListN.{length}
 use lib.Dec.{eqb}
-use Rattle.paper.specs.declared.Refusal.{Refusal}
 use Rattle.paper.specs.Act.{Act, ret, ifThen}
 use Rattle.paper.specs.Walk.{meet, along}
 use Rattle.cells.specs.Layout.{unpackOf}

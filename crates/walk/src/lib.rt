@@ -102,7 +102,8 @@ fn walk_links(
     from: usize,
 ) -> Walked
     requires { ⌜ Holds (now cells) (now order) (now marks) from × (depth ≤ 65) ⌝ }
-    ensures { λ r. ⌜ Ends (λ f. along f depth false head (back from (now (order .entry)))) (now (cells .entry)) (now (marks .entry)) (now (order .exit)) (now (marks .exit)) r ⌝ }
+    ensures { λ r. ⌜ Ends (λ f. along f depth false head (back from (now (order .entry))))
+        (now (cells .entry)) (now (marks .entry)) (now (order .exit)) (now (marks .exit)) r ⌝ }
 {
     let mut c = head;
     let mut n = from;
@@ -140,7 +141,8 @@ fn enter_sublist(
     from: usize,
 ) -> Walked
     requires { ⌜ Holds (now cells) (now order) (now marks) from × (depth ≤ 64) ⌝ }
-    ensures { λ r. ⌜ Ends (sublist depth head (back from (now (order .entry)))) (now (cells .entry)) (now (marks .entry)) (now (order .exit)) (now (marks .exit)) r ⌝ }
+    ensures { λ r. ⌜ Ends (sublist depth head (back from (now (order .entry))))
+        (now (cells .entry)) (now (marks .entry)) (now (order .exit)) (now (marks .exit)) r ⌝ }
 {
     if head == 0 {
         return Walked {

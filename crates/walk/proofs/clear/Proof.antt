@@ -2,7 +2,7 @@
 use Prim.Native.Nat.{_-_, _<_, _≤_}
 use mathlib.Core.Path.{_≡_, subst}
 use native.Mathlib.Omega.{arith}
-use lib.ListN.{length, getD, set, length-set}
+use lib.ListN.{length, getD, length-set}
 use Rattle.walk.specs.Marks.{back, Only}
 use Rattle.walk.proofs.Marks.{back-less, only-less, only-none}
 use Rattle.walk.proofs.clear.Statement.{statement}

@@ -1,0 +1,66 @@
+use Rattle.integers.proofs.Put.{meets}
+use Rattle.undo.proofs.Readings.{any-sees, any-on}
+use Rattle.undo.proofs.Lines.{sees, reads, then, any, alike}
+use Rattle.paper.specs.Process.{putInteger, combines}
+use Rattle.paper.specs.Act.{gives}
+use native.Mathlib.Omega.{arith}
+use mathlib.Core.Path.{ap}
+use borrow.Author.Needs.{needs}
+use Rattle.integers.proofs.combines.Statement.{statement}
+use Rattle.integers.proofs.combines.Tie as tie
+
+put-integer-requires : tie.Need-put-integer-requires
+put-integer-requires c κs =
+    let c₁ = c .before .before .before .before .before .before .before .before .before in
+    let c₂ = c₁ .before .before .before .before .before .before .before .before in
+    record { fits = omega (arith, c₂ .pre .fits) }
+
+gives3-requires : tie.Need-gives3-requires
+gives3-requires c κs =
+    let c₁ = c .before .before .before .before .before .before .before in
+    let c₂ = c₁ .before .before .before .before .before .before .before .before .before in
+    let c₃ = c₂ .before .before .before .before .before .before .before .before .before in
+    record { fits = omega (arith, c₃ .pre .fits, c₁ .put-integer .ensures .count) }
+
+returns : tie.Need-returns
+unfolding combines
+returns c =
+    let c₁ = c .before .before .before .before in
+    let c₂ = c₁ .before in
+    let c₃ = c₂ .before .before .before .before .before .before .before in
+    let c₄ = c₃ .before in
+    let c₅ = c₄ .before .before .before in
+    let c₆ = c₅ .before .before in
+    let c₇ = c₆ .before .before in
+    let c₈ = c₇ .before .before in
+    let c₉ = c₈ .before .before in
+    let c₁₀ = c₉ .before .before in
+    sees _ (any-sees (c₁₀ .own .ensures))
+    (reads _ (any-on (c₉ .below .ensures))
+    (reads _ (any-on (c₈ .below2 .ensures))
+    (meets (any-on (c₇ .integer-at .ensures))
+    (reads _ (any-on (c₆ .integer-at2 .ensures))
+    (reads _ (any-on (c₅ .integer-at3 .ensures))
+    (then (any (alike (ap (putInteger _) (c₄ .combined .ensures)) (c₃ .put-integer .ensures)))
+    (alike (ap (gives 3) (c₂ .symbol .ensures)) (c₁ .gives3 .ensures))))))))
+
+pub combines-spec : {M : Type 1} → statement M
+combines-spec =
+    tie.close
+    (tie.spec
+    (λ c κs. search needs)
+    (λ c κs. search needs)
+    (λ c κs. search needs)
+    (λ c. search needs)
+    (λ c κs. search needs)
+    (λ c. search needs)
+    (λ c κs. search needs)
+    (λ c. search needs)
+    (λ c κs. search needs)
+    (λ c κs. search needs)
+    put-integer-requires
+    (λ c κs. search needs)
+    gives3-requires
+    (λ c. search needs)
+    (λ c. search needs)
+    returns)

@@ -1,0 +1,33 @@
+use mathlib.Core.Path.{ap}
+use native.Mathlib.Omega.{arith}
+use Rattle.paper.specs.Act.{gives}
+use Rattle.paper.specs.Process.{J74}
+use Rattle.undo.proofs.Readings.{any-sees}
+use Rattle.undo.proofs.Lines.{bind, sees, any, alike}
+use borrow.Author.Needs.{needs}
+use Rattle.structures.proofs.j74.Statement.{statement}
+use Rattle.structures.proofs.j74.Tie as tie
+
+returns : tie.Need-returns
+unfolding J74
+returns c =
+    let c₁ = c .before .before .before .before in
+    let c₂ = c₁ .before .before .before .before .before .before .before .before in
+    let c₃ = c₂ .before .before .before .before .before in
+    let t = c₂ .copy .ensures in (
+      sees _ (any-sees (c₃ .own .ensures)) (bind _ (any (t .0)) (alike (ap (gives 1) (c₁ .before .copy-name .ensures)) (c₁ .gives1 .ensures))),
+      record { small = omega (arith, c₁ .gives1 .kept .0, t .1 .small); sized = t .1 .sized; unmarked = t .1 .unmarked },
+    )
+
+pub j74-spec : {M : Type 1} → statement M
+j74-spec =
+    tie.close
+    (tie.spec
+    (λ c κs. search needs)
+    (λ c. search needs)
+    (λ c κs. search needs)
+    (λ c κs. search needs)
+    (λ c κs. search needs)
+    (λ c. search needs)
+    (λ c. search needs)
+    returns)
