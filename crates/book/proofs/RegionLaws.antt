@@ -1,0 +1,73 @@
+-- The cell of a regional symbol: along the regions of a table from number i on, and by letter.
+use Prim.Native.Nat.{ℕ, _+_, _<_, _≤_}
+use mathlib.Core.Bool.{Bool, true, false, cond}
+use mathlib.Core.List.{List, [], _∷_}
+use mathlib.Core.Path.{_≡_, refl, ap, sym, _∙_}
+use native.Mathlib.Omega.{arith}
+use borrow.Author.Tests.{lt-ltb, le-ltb, eq-eqb, ne-eqb}
+use lib.Dec.{eqb, ltb}
+use lib.ListN.{length, getD, drop}
+use Rattle.paper.specs.Cell.{Region, endOfRegions}
+use Rattle.paper.specs.Step.{choose}
+use Rattle.paper.specs.Deck.{inDeck, within, cellOf}
+use Rattle.sound.specs.declared.Regions.{Regions}
+use Rattle.sound.specs.Table.{regionAt, regionsOf}
+use Rattle.sound.proofs.TableLaws.{rest-more, rest-none}
+
+abbrev pub rest : Regions → ℕ → List Region
+rest r i = drop i (regionsOf r)
+
+past-start : (rs : List Region) (at : ℕ) → at ≤ endOfRegions rs at
+unfolding endOfRegions
+past-start [] at = omega arith
+past-start (r ∷ rs) at = omega (arith, past-start rs (at + r .count))
+
+yes-there : (t : Bool) (x y : ℕ) → t ≡ true → _≡_ {A = ℕ} (elim t as (λ _. ℕ) [ true ↦ x | false ↦ y ]) x
+yes-there t x y e = rw e
+
+not-there : (t : Bool) (x y : ℕ) → t ≡ false → _≡_ {A = ℕ} (elim t as (λ _. ℕ) [ true ↦ x | false ↦ y ]) y
+not-there t x y e = rw e
+
+module _ (r : Regions) (i : ℕ) (here : i < length (regionsOf r)) (from k b n : ℕ) (counts : k ≡ getD (r .counts) i 0) where
+  pub end-more : endOfRegions (rest r (i + 1)) (from + k) ≡ endOfRegions (rest r i) from
+  unfolding endOfRegions
+  end-more = rw (rest-more r i here, counts)
+
+  pub more-fits : endOfRegions (rest r i) from ≤ 16384 → from + k ≤ 16384
+  more-fits h = omega (arith, end-more, past-start (rest r (i + 1)) (from + k))
+
+  hit : getD (r .letters) i 0 ≡ b → inDeck (rest r i) from b n ≡ cond (ltb n k) (from + n) 0
+  unfolding inDeck
+  hit e = rw (rest-more r i here, counts) (yes-there (eqb (getD (r .letters) i 0) b) _ _ (eq-eqb (getD (r .letters) i 0) b e))
+
+  pub deck-here : getD (r .letters) i 0 ≡ b → n < k → inDeck (rest r i) from b n ≡ from + n
+  deck-here e h = hit e ∙ rw (lt-ltb n k h)
+
+  pub deck-past : getD (r .letters) i 0 ≡ b → k ≤ n → inDeck (rest r i) from b n ≡ 0
+  deck-past e h = hit e ∙ rw (le-ltb n k h)
+
+  pub deck-more : (getD (r .letters) i 0 ≡ b → ⊥) → inDeck (rest r (i + 1)) (from + k) b n ≡ inDeck (rest r i) from b n
+  unfolding inDeck
+  deck-more e = rw (rest-more r i here, counts) (sym (not-there (eqb (getD (r .letters) i 0) b) _ _ (ne-eqb (getD (r .letters) i 0) b e)))
+
+pub deck-none : (r : Regions) (i from b n : ℕ) → length (regionsOf r) ≤ i → inDeck (rest r i) from b n ≡ 0
+unfolding inDeck
+deck-none r i from b n h = rw (rest-none r i h)
+
+-- by letter
+module _ (rs : List Region) (b n : ℕ) where
+  pub cell-H : b ≡ 72 → cellOf rs b n ≡ within n 10 (1 + n)
+  unfolding cellOf choose
+  cell-H e = rw e
+
+  pub cell-W : b ≡ 87 → cellOf rs b n ≡ within n 10 (11 + n)
+  unfolding cellOf choose
+  cell-W e = rw e
+
+  pub cell-J : b ≡ 74 → cellOf rs b n ≡ within n 200 (21 + n)
+  unfolding cellOf choose
+  cell-J e = rw e
+
+  pub cell-deck : (b ≡ 72 → ⊥) → (b ≡ 87 → ⊥) → (b ≡ 74 → ⊥) → cellOf rs b n ≡ inDeck rs 221 b n
+  unfolding cellOf choose
+  cell-deck h w j = rw (ne-eqb b 72 h, ne-eqb b 87 w, ne-eqb b 74 j, choose)

@@ -1,0 +1,14 @@
+use Rattle.book.proofs.StepLaws.{notes-local}
+use Rattle.book.proofs.DidLaws.{bind, then, give}
+use Rattle.paper.specs.Deck.{cellFor}
+use borrow.Author.Needs.{needs}
+use Rattle.book.proofs.define_local.Statement.{statement}
+use Rattle.book.proofs.define_local.Tie as tie
+
+returns : tie.Need-returns
+unfolding cellFor
+returns c =
+    λ rs m. bind _ ((c .before .before .before .before .mention .ensures) rs m) (then (notes-local _ _ _ (c .with-local .ensures)) give)
+
+pub define-local-spec : {M : Type 1} → statement M
+define-local-spec = tie.close (tie.spec (λ c κs. search needs) (λ c κs. search needs) (λ c. search needs) returns)

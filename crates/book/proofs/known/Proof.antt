@@ -1,0 +1,43 @@
+use Rattle.book.proofs.DidLaws.{told-ret, told-sees, told-as, under}
+use Rattle.paper.specs.Deck.{known, cellOf}
+use lib.Dec.{eqb}
+use mathlib.Core.Path.{ap, sym, _∙_}
+use borrow.Author.Needs.{needs}
+use Rattle.book.proofs.known.Statement.{statement}
+use Rattle.book.proofs.known.Tie as tie
+
+returns : tie.Need-returns
+unfolding known
+returns c =
+    let c₁ = c .before in
+    let c₂ = c₁ .before .before in
+    told-as known (c₂ .f .given .1)
+    (told-sees _ _ (λ t h. ap (λ rs. cellOf rs (c₂ .f .given .0 .0) (c₂ .f .given .0 .1 .0)) h ∙ sym (c₁ .cell-of .ensures))
+    (under (λ t h. tt) (c .refuse-if .ensures)))
+
+returns-2 : tie.Need-returns-2
+unfolding known
+returns-2 c = told-as known (c .enum-told .given .1) told-ret
+
+returns-3 : tie.Need-returns-3
+unfolding known
+returns-3 c = told-as known (c .enum-told2 .given .1) told-ret
+
+returns-4 : tie.Need-returns-4
+unfolding known
+returns-4 c = told-as known (c .enum-told3 .given .1) told-ret
+
+pub known-spec : {M : Type 1} → statement M
+known-spec =
+    tie.close
+    (tie.spec
+    (λ c. search needs)
+    (λ c κs. search needs)
+    (λ c κs. search needs)
+    (λ c. search needs)
+    (λ c. search needs)
+    (λ c. search needs)
+    returns
+    returns-2
+    returns-3
+    returns-4)

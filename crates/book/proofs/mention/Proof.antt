@@ -1,0 +1,26 @@
+use Rattle.book.proofs.DidLaws.{sees, yes, else, give, giving}
+use Rattle.paper.specs.Deck.{mention}
+use borrow.Author.Tests.{eq-eqb, ne-eqb}
+use mathlib.Core.Path.{sym, refl, _∙_}
+use borrow.Author.Needs.{needs}
+use Rattle.book.proofs.mention.Statement.{statement}
+use Rattle.book.proofs.mention.Tie as tie
+
+returns : tie.Need-returns
+unfolding mention
+returns c =
+    let c₁ = c .before .before in
+    let c₂ = c₁ .before .before in
+    let c₃ = c₂ .before in
+    λ rs m. sees _ _ refl (yes _ (eq-eqb _ _ (sym (c₃ .local-cell .ensures) ∙ c₂ .if1 .taken)) ((c₁ .new-local .ensures) rs m))
+
+returns-2 : tie.Need-returns-2
+unfolding mention
+returns-2 c =
+    let c₁ = c .before in
+    λ rs m. sees _ _ refl
+    (else _ (ne-eqb _ _ (λ e. (c .if1 .left) (c₁ .local-cell .ensures ∙ e))) (giving (sym (c₁ .local-cell .ensures)) give))
+
+pub mention-spec : {M : Type 1} → statement M
+mention-spec =
+    tie.close (tie.spec (λ c κs. search needs) (λ c κs. search needs) (λ c. search needs) returns returns-2)

@@ -1,0 +1,388 @@
+// What the loader keeps, and its small steps: document 01, "The deck".
+ghost use mathlib.Core.Path.{_≡_};
+ghost use mathlib.Core.Bool.{Bool, true, false, cond};
+ghost use mathlib.Core.List.{List};
+ghost use Prim.Native.Nat.{ℕ, _+_, _<_};
+ghost use lib.Dec.{eqb};
+ghost use lib.ListN.{getD, set};
+ghost use Rattle.paper.specs.Cell.{Region, Cell};
+ghost use Rattle.paper.specs.declared.Field.{Field};
+ghost use Rattle.cells.specs.Pack.{Packs};
+ghost use Rattle.paper.specs.Step.{refuseIf, ret, ifThen};
+ghost use Rattle.paper.specs.Deck.{localAt, allWords, takeCell, newLocal, mention, known, opens, hasStructure, nameFits, closes, cellFor};
+ghost use Rattle.paper.specs.Deck.{cellNamed, linkUp, fill};
+ghost use Rattle.book.specs.declared.Notes.{Notes};
+ghost use Rattle.book.specs.declared.Judged.{Judged};
+ghost use Rattle.sound.specs.Table.{regionsOf};
+ghost use Rattle.book.specs.Kept.{localsOf, noNotes, localNoted, structureNoted, Laid, RegionsAre, OpenedIs, LocalsAre, NotedIn};
+ghost use Rattle.book.specs.Did.{refusedBy, Always, Told, OnCells, OnNotes, OnTable, OnNames, OnAll};
+
+mod fields;
+mod names;
+mod regions;
+
+pub use fields::data_tag;
+pub use fields::is_blank;
+use fields::opens;
+use names::mark;
+use names::named;
+use paper::Fault;
+use paper::Field;
+pub use regions::cell_of;
+use sound::Regions;
+
+// Whether loading goes on, or why not.
+pub enum Judged {
+    Fine,
+    Refused(Fault),
+}
+
+// Whether a word has come and whether a structure is open, the cell whose blank LINK the next record fills, and of each local its cell and
+// whether it has a word.
+pub struct Notes {
+    pub words: bool,
+    pub opened: bool,
+    pub waiting: u16,
+    pub locals: [u16; 64],
+    pub filled: [bool; 64],
+}
+
+// What a step comes to. What it writes after a refusal does not count: a refused load zeroes every cell.
+pub struct Taken {
+    pub go: Judged,
+    pub c: u16,
+}
+
+pub struct Got {
+    pub go: Judged,
+    pub notes: Notes,
+    pub c: u16,
+}
+
+fn refused(a: Judged, f: Fault) -> Judged
+    ensures { λ r. ⌜ r ≡ refusedBy a f ⌝ }
+{
+    match a {
+        Judged::Fine => Judged::Refused(f),
+        Judged::Refused(e) => Judged::Refused(e),
+    }
+}
+
+// Refused, unless it was before.
+pub fn refuse_if(a: Judged, b: bool, f: Fault) -> Judged
+    ensures { λ r. ⌜ Told Always (refuseIf b f) a r ⌝ }
+{
+    if b {
+        return refused(a, f);
+    }
+    a
+}
+
+pub fn put(cells: &mut [u64], c: u16, x: u64)
+    ensures { λ _. ⌜ now (cells .exit) ≡ set (now (cells .entry)) c x ⌝ }
+{
+    let i = c as usize;
+    if i < cells.len() {
+        cells[i] = x;
+    }
+}
+
+impl Notes {
+    // Before any word.
+    pub fn none() -> Self
+        ensures { λ r. ⌜ r ≡ noNotes ⌝ }
+    {
+        Self {
+            words: false,
+            opened: false,
+            waiting: 0,
+            locals: [0; 64],
+            filled: [false; 64],
+        }
+    }
+
+    // The cell of a local; 0 before its first mention.
+    fn local_cell(self, n: u16) -> u16
+        ensures { λ r. ⌜ r ≡ localAt (localsOf (self .locals) (self .filled)) n .cell ⌝ }
+    {
+        let i = n as usize;
+        if i < 64 {
+            return self.locals[i];
+        }
+        0
+    }
+
+    fn has_word(self, n: u16) -> bool
+        ensures { λ r. ⌜ r ≡ localAt (localsOf (self .locals) (self .filled)) n .hasWord ⌝ }
+    {
+        let i = n as usize;
+        if i < 64 {
+            return self.filled[i];
+        }
+        false
+    }
+
+    fn with_local(mut self, n: u16, c: u16, w: bool) -> Self
+        ensures { λ r. ⌜ r ≡ localNoted self n c w ⌝ }
+    {
+        let i = n as usize;
+        if i < 64 {
+            self.locals[i] = c;
+            self.filled[i] = w;
+        }
+        self
+    }
+
+    // "A regional NAME outside H, W, J opens a structure; locals belong to the open one"
+    fn with_structure(self) -> Self
+        ensures { λ r. ⌜ r ≡ structureNoted self ⌝ }
+    {
+        Self {
+            words: true,
+            opened: true,
+            waiting: self.waiting,
+            locals: [0; 64],
+            filled: [false; 64],
+        }
+    }
+
+    // Whether each local that was mentioned has a word.
+    fn all_words(self) -> bool
+        ensures { λ r. ⌜ r ≡ allWords (localsOf (self .locals) (self .filled)) ⌝ }
+    {
+        let mut i = 0;
+        while i < 64 {
+            if (self.locals[i] != 0) & !self.filled[i] {
+                return false;
+            }
+            i += 1;
+        }
+        true
+    }
+}
+
+// "cells come from its front"
+fn take_cell(cells: &mut [u64], a: Judged) -> Taken
+    ensures { λ r. ⌜ OnCells takeCell (now (cells .entry)) a (now (cells .exit)) (r .go) (r .c) ⌝ }
+{
+    let h = cells::word_in(cells::peek(cells, 3));
+    let c = (h % 65536) as u16;
+    let go = refuse_if(a, c == 0, Fault::NoCell);
+    let next = cells::free_link(cells::peek(cells, c));
+    put(cells, 3, cells::with_link(h, next));
+    put(cells, c, cells::EMPTY);
+    Taken { go: go, c: c }
+}
+
+fn new_local(cells: &mut [u64], notes: Notes, a: Judged, n: u16) -> Got
+    ensures { λ r. ⌜ OnNotes (newLocal n) notes (now (cells .entry)) a (r .notes) (now (cells .exit)) (r .go) (r .c) ⌝ }
+{
+    let t = take_cell(cells, a);
+    let c = t.c;
+    let go = t.go;
+    Got {
+        go: go,
+        notes: notes.with_local(n, c, false),
+        c: c,
+    }
+}
+
+// "locals .. get a cell at first mention"
+fn mention(cells: &mut [u64], notes: Notes, a: Judged, n: u16) -> Got
+    ensures { λ r. ⌜ OnNotes (mention n) notes (now (cells .entry)) a (r .notes) (now (cells .exit)) (r .go) (r .c) ⌝ }
+{
+    let c = notes.local_cell(n);
+    if c == 0 {
+        return new_local(cells, notes, a, n);
+    }
+    Got {
+        go: a,
+        notes: notes,
+        c: c,
+    }
+}
+
+// "any regional symbol outside its region or of an undeclared one"
+pub fn known(regions: Regions, a: Judged, f: Field) -> Judged
+    requires { ⌜ Laid regions ⌝ }
+    ensures { λ r. ⌜ Told (RegionsAre regions) (known f) a r ⌝ }
+{
+    match f {
+        Field::Regional(b, n) => refuse_if(a, cell_of(regions, b, n) == 0, Fault::BadName),
+        Field::Local(_) => a,
+        Field::Zero => a,
+        Field::Blank => a,
+    }
+}
+
+// "a local with no structure open", in a record that has this name
+pub fn has_structure(notes: Notes, a: Judged, name: Field, f: Field) -> Judged
+    ensures { λ r. ⌜ Told (OpenedIs notes) (hasStructure (opens name) f) a r ⌝ }
+{
+    match f {
+        Field::Regional(_, _) => a,
+        Field::Local(_) => refuse_if(a, !(notes.opened | opens(name)), Fault::BadName),
+        Field::Zero => a,
+        Field::Blank => a,
+    }
+}
+
+// NAME: "one in H, W or J is 6"; "a name defined twice or out of place"
+pub fn name_fits(
+    names: &[bool],
+    regions: Regions,
+    notes: Notes,
+    a: Judged,
+    word: bool,
+    f: Field,
+) -> Judged
+    requires { ⌜ Laid regions ⌝ }
+    ensures { λ r. ⌜ Told (NotedIn regions notes (now (names .entry))) (nameFits word f) a r ⌝ }
+{
+    let w = notes.waiting;
+    match f {
+        Field::Regional(b, n) => {
+            let c = cell_of(regions, b, n);
+            refuse_if(a, (w != 0) | (c < 221) | named(names, c), Fault::BadName)
+        }
+        Field::Local(n) => {
+            refuse_if(
+                a,
+                ((w != 0) & !word) | !notes.opened | notes.has_word(n),
+                Fault::BadName,
+            )
+        }
+        Field::Zero => refused(a, Fault::BadName),
+        Field::Blank => refuse_if(a, (w == 0) | !word, Fault::BadName),
+    }
+}
+
+// "A structure ends at the next such regional NAME or at kind 5."
+pub fn closes(notes: Notes, a: Judged) -> Judged
+    ensures { λ r. ⌜ Told (LocalsAre notes) closes a r ⌝ }
+{
+    refuse_if(a, !notes.all_words(), Fault::NoWord)
+}
+
+fn open_structure(
+    names: &mut [bool],
+    regions: Regions,
+    notes: Notes,
+    a: Judged,
+    b: u8,
+    n: u16,
+) -> Got
+    requires { ⌜ Laid regions ⌝ }
+    ensures { λ r. ⌜ OnNames (cellFor (Field.Regional b n)) regions notes (now (names .entry)) a (r .notes) (now (names .exit)) (r .go) (r .c) ⌝ }
+{
+    let go = closes(notes, a);
+    let c = cell_of(regions, b, n);
+    mark(names, c);
+    Got {
+        go: go,
+        notes: notes.with_structure(),
+        c: c,
+    }
+}
+
+fn define_local(cells: &mut [u64], notes: Notes, a: Judged, n: u16) -> Got
+    ensures { λ r. ⌜ OnNotes (cellFor (Field.Local n)) notes (now (cells .entry)) a (r .notes) (now (cells .exit)) (r .go) (r .c) ⌝ }
+{
+    let g = mention(cells, notes, a, n);
+    let c = g.c;
+    let go = g.go;
+    let k = g.notes;
+    Got {
+        go: go,
+        notes: k.with_local(n, c, true),
+        c: c,
+    }
+}
+
+// The cell that NAME gives a record: "a blank-named word gets its cell at NAME".
+pub fn cell_for(
+    cells: &mut [u64],
+    names: &mut [bool],
+    regions: Regions,
+    notes: Notes,
+    a: Judged,
+    f: Field,
+) -> Got
+    requires { ⌜ Laid regions ⌝ }
+    ensures { λ r. ⌜ OnAll (cellFor f) regions notes (now (cells .entry)) (now (names .entry)) a (r .notes) (now (cells .exit)) (now (names .exit)) (r .go) (r .c) ⌝ }
+{
+    match f {
+        Field::Regional(b, n) => open_structure(names, regions, notes, a, b, n),
+        Field::Local(n) => define_local(cells, notes, a, n),
+        Field::Zero => Got {
+            go: refused(a, Fault::BadName),
+            notes: notes,
+            c: 0,
+        },
+        Field::Blank => {
+            let t = take_cell(cells, a);
+            let go = t.go;
+            Got {
+                go: go,
+                notes: notes,
+                c: t.c,
+            }
+        }
+    }
+}
+
+// The cell that a SYMB or LINK names.
+pub fn cell_named(cells: &mut [u64], regions: Regions, notes: Notes, a: Judged, f: Field) -> Got
+    requires { ⌜ Laid regions ⌝ }
+    ensures { λ r. ⌜ OnTable (cellNamed f) regions notes (now (cells .entry)) a (r .notes) (now (cells .exit)) (r .go) (r .c) ⌝ }
+{
+    match f {
+        Field::Regional(b, n) => Got {
+            go: a,
+            notes: notes,
+            c: cell_of(regions, b, n),
+        },
+        Field::Local(n) => mention(cells, notes, a, n),
+        Field::Zero => Got {
+            go: a,
+            notes: notes,
+            c: 0,
+        },
+        Field::Blank => Got {
+            go: a,
+            notes: notes,
+            c: 0,
+        },
+    }
+}
+
+// "A blank LINK means the next record's cell": the cell w, if there is one that waits, gets the LINK c.
+fn link_up(cells: &mut [u64], w: u16, c: u16)
+    ensures { λ _. ⌜ ((a : Judged) → OnCells (ifThen (eqb w 0) (ret tt) (linkUp w c)) (now (cells .entry)) a (now (cells .exit)) a tt) ⌝ }
+{
+    if w == 0 {
+        return;
+    }
+    let x = cells::peek(cells, w);
+    if x < cells::FREE {
+        put(cells, w, cells::with_link(x, c));
+    }
+}
+
+fn pick(b: bool, c: u16) -> u16
+    ensures { λ r. ⌜ r ≡ cond b c 0 ⌝ }
+{
+    if b { c } else { 0 }
+}
+
+// The record's cell c gets the number x; the cell that waited is linked to it; c waits if its own LINK is blank.
+pub fn fill(cells: &mut [u64], notes: Notes, c: u16, x: u64, waits: bool) -> Notes
+    ensures { λ r. ⌜ ((a : Judged) (y : Cell) → Packs x y → OnNotes (fill c y waits) notes (now (cells .entry)) a r (now (cells .exit)) a tt) ⌝ }
+{
+    link_up(cells, notes.waiting, c);
+    put(cells, c, x);
+    let mut k = notes;
+    k.words = true;
+    k.waiting = pick(waits, c);
+    k
+}

@@ -1,0 +1,109 @@
+-- The cells before any word, and loops that fill a slice from the front.
+use Prim.Native.Nat.{ℕ, zero, suc, _+_, _<_, _≤_}
+use mathlib.Core.Bool.{Bool, false}
+use mathlib.Core.List.{List, [], _∷_}
+use mathlib.Core.Logic.{_≢_}
+use mathlib.Core.Path.{_≡_, refl, ap, sym, _∙_, subst}
+use native.Mathlib.Omega.{arith}
+use native.Mathlib.Decide.{ℕ-discrete}
+use native.Mathlib.Numerals.{add-one}
+use borrow.Author.Tests.{lt-ltb, le-ltb, eq-eqb, ne-eqb}
+use lib.ListN.{length, getD, set, replicate, getD-replicate, length-replicate}
+use lib.Seq.{getD-set-same, getD-set-other, ext-getD}
+use Rattle.paper.specs.Step.{choose}
+use Rattle.paper.specs.Cell.{Region, endOfRegions, Cell, free, word, process, zeros, emptyWord}
+use Rattle.paper.specs.Deck.{nextFree, freshCell, cellsFrom, fresh, freshBook}
+use Rattle.cells.specs.Layout.{unpackOf}
+use Rattle.cells.specs.Pack.{Packs, AllFormed}
+use Rattle.cells.specs.Bridge.{unpacked}
+use Rattle.book.specs.declared.Notes.{Notes}
+use Rattle.book.specs.Kept.{held, bookOf, noNotes}
+use Rattle.book.proofs.StepLaws.{no-locals}
+
+-- by number
+module _ (size end c : ℕ) where
+  pub fresh-zero : c ≡ 0 → freshCell size end c ≡ word zeros
+  unfolding freshCell choose
+  fresh-zero p = rw (eq-eqb c 0 p, choose)
+
+  pub fresh-H2 : c ≡ 3 → freshCell size end c ≡ word (emptyWord (nextFree size end))
+  unfolding freshCell choose
+  fresh-H2 p = rw (ne-eqb c 0 (λ e. omega arith), eq-eqb c 3 p, choose)
+
+  pub fresh-HW : c ≢ 0 → c ≢ 3 → c < 21 → freshCell size end c ≡ word (emptyWord 0)
+  unfolding freshCell choose
+  fresh-HW p q r = rw (ne-eqb c 0 p, ne-eqb c 3 q, lt-ltb c 21 r, choose)
+
+  pub fresh-J : 21 ≤ c → c < 221 → freshCell size end c ≡ process
+  unfolding freshCell choose
+  fresh-J p q = rw (ne-eqb c 0 (λ e. omega arith), ne-eqb c 3 (λ e. omega arith), le-ltb c 21 p, lt-ltb c 221 q, choose)
+
+  pub fresh-region : 221 ≤ c → c < end → freshCell size end c ≡ word (emptyWord 0)
+  unfolding freshCell choose
+  fresh-region p q =
+      rw
+      (ne-eqb c 0 (λ e. omega arith), ne-eqb c 3 (λ e. omega arith), le-ltb c 21 (omega arith), le-ltb c 221 p, lt-ltb c end q, choose)
+
+  pub fresh-free : 221 ≤ c → end ≤ c → freshCell size end c ≡ free (nextFree size (c + 1))
+  unfolding freshCell choose
+  fresh-free p q =
+      rw (
+        ne-eqb c 0 (λ e. omega arith),
+        ne-eqb c 3 (λ e. omega arith),
+        le-ltb c 21 (omega arith),
+        le-ltb c 221 p,
+        le-ltb c end q,
+        choose,
+        add-one,
+      )
+
+pub packs-as : {r : ℕ} {x y : Cell} → x ≡ y → Packs r y → Packs r x
+packs-as {r} e p = subst (λ (z : Cell). Packs r z) (sym e) p
+
+pub empty-packs : Packs 0x400000000 (word (emptyWord 0))
+unfolding unpackOf
+empty-packs = record { unpacks = refl; formed = refl }
+
+-- what holds of the elements before i holds after one more is stored
+pub set-below : {A : Type 0} (P : ℕ → A → Type 0) (l : List A) (i : ℕ) (x d : A) → i < length l → ((j : ℕ) → j < i → P j (getD l j d)) → P i x
+    → (j : ℕ) → j < i + 1 → P j (getD (set l i x) j d)
+set-below {A} P l i x d h b p j k = go (ℕ-discrete j i)
+  where
+    go : Dec (j ≡ i) → P j (getD (set l i x) j d)
+    go (yes e) = rw (e, getD-set-same l i x d h) p
+    go (no n) = rw (getD-set-other l i j x d n) (b j (omega arith))
+
+pub all-alike : {A : Type 0} (v : A) (l : List A) (n : ℕ) → length l ≡ n → ((j : ℕ) → j < n → getD l j v ≡ v) → l ≡ replicate n v
+all-alike v l n e h =
+    ext-getD v l (replicate n v) (e ∙ sym (length-replicate n v))
+    (λ i b. h i (omega arith) ∙ sym (getD-replicate n i v v (omega arith)))
+
+-- cells laid one by one
+laid-cells : (f : ℕ → Cell) (s : List ℕ) (c : ℕ) → ((j : ℕ) → j < length s → Packs (getD s j 0) (f (c + j))) → unpacked s ≡ cellsFrom f (length s) c
+unfolding cellsFrom
+laid-cells f [] c h = refl
+laid-cells f (x ∷ s) c h =
+    let z : c + 0 ≡ c = omega arith in
+    let t = laid-cells f s (suc c) (λ j b. let e : suc c + j ≡ c + suc j = omega arith in rw e (h (suc j) (omega arith))) in
+    rw (h 0 (omega arith) .unpacks, z, t)
+
+laid-formed : (f : ℕ → Cell) (s : List ℕ) (c : ℕ) → ((j : ℕ) → j < length s → Packs (getD s j 0) (f (c + j))) → AllFormed s
+laid-formed f [] c h = tt
+laid-formed f (x ∷ s) c h = (
+  h 0 (omega arith) .formed,
+  laid-formed f s (suc c) (λ j b. let e : suc c + j ≡ c + suc j = omega arith in rw e (h (suc j) (omega arith))),
+)
+
+pub laid : (f : ℕ → Cell) (s : List ℕ) (n : ℕ) → length s ≡ n → ((j : ℕ) → j < n → Packs (getD s j 0) (f j))
+    → (unpacked s ≡ cellsFrom f n 0) × AllFormed s
+laid f s n e h = (laid-cells f s 0 each ∙ ap (λ (k : ℕ). cellsFrom f k 0) e, laid-formed f s 0 each)
+  where
+    each : (j : ℕ) → j < length s → Packs (getD s j 0) (f (0 + j))
+    each j b = let z : 0 + j ≡ j = omega arith in rw z (h j (omega arith))
+
+-- the book before any word
+pub begun : (rs : List Region) (k : Notes) (s : List ℕ) (m m′ : List Bool) (n e : ℕ) → e ≡ endOfRegions rs 221
+    → unpacked s ≡ cellsFrom (freshCell n e) n 0
+    → m′ ≡ replicate (length m) false → length m ≡ n → k ≡ noNotes → bookOf (held rs k s m′) ≡ freshBook n rs
+unfolding fresh
+begun rs k s m m′ n e end cells marks size notes = rw (notes, no-locals, cells, end, marks, size)

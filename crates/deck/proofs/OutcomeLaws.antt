@@ -1,0 +1,97 @@
+-- The outcome of a load in numbers.
+use Prim.Native.Nat.{ℕ, zero, suc, _≤_}
+use mathlib.Core.Bool.{Bool, true, false, cond, _&&_, not}
+use mathlib.Core.List.{List, [], _∷_}
+use mathlib.Core.Path.{_≡_, refl, ap, sym, _∙_, subst}
+use native.Mathlib.Omega.{arith}
+use borrow.Author.Tests.{leb-true, not-true, not-false}
+use lib.Dec.{leb}
+use lib.ListN.{length, take, replicate, length-replicate}
+use lib.Seq.{length-take-le}
+use Rattle.paper.specs.declared.Fault.{Fault}
+use Rattle.paper.specs.declared.LoadAnswer.the-variants.{Loaded as AnswerLoaded, BadSize, Broken}
+use Rattle.paper.specs.Cell.{Cell, word, zeros, sizeFits}
+use Rattle.paper.specs.Deck.{LoadOutcome, load, ending, records, freshBook}
+use Rattle.cells.specs.Pack.{packOf, packed}
+use Rattle.cells.specs.Bridge.{unpacked}
+use Rattle.cells.proofs.Store.{unpacked-length, packed-unpacked}
+use Rattle.sound.specs.declared.Regions.{Regions}
+use Rattle.sound.specs.Table.{regionsOf, noRegions}
+use Rattle.sound.proofs.TableLaws.{none-held}
+use Rattle.book.specs.declared.Judged.{Judged}
+use Rattle.book.specs.declared.Judged.the-variants.{Fine, Refused}
+use Rattle.deck.specs.declared.Ended.{Ended}
+use Rattle.deck.specs.declared.Loaded.{Loaded}
+use Rattle.deck.specs.Load.{tableFrom, outcomeOf, Ends, Loads}
+
+-- the test of N
+pub in-range : (n : ℕ) (b : Bool) → b ≡ sizeFits n → not b ≡ false → n ≤ 16384
+in-range n b e h = leb-true n 16384 (second (leb 256 n) (leb n 16384) (sym e ∙ not-false b h))
+  where
+    second : (s t : Bool) → (s && t) ≡ true → t ≡ true
+    second true t e = e
+    second false t e = let z : _≡_ {A = ℕ} 0 1 = cc in absurd (omega arith)
+
+-- the first n of k marks
+pub marks-lent : (n k : ℕ) → n ≤ k → n ≡ length (take n (replicate k false))
+marks-lent n k h = sym (length-take-le n (replicate k false) (rw (length-replicate k false) h))
+
+-- the definition by the test of N
+module _ (deck s : List ℕ) where
+  abbrev chosen : ℕ → Bool → LoadOutcome
+  chosen n b = elim b as (λ _. LoadOutcome) [
+    | true ↦ ending n (records n (suc (length deck)) 0 deck (freshBook n []))
+    | false ↦ record { answer = BadSize; cells = unpacked s; regions = [] }
+  ]
+
+  by-size : load deck (unpacked s) ≡ chosen (length s) (sizeFits (length s))
+  unfolding load
+  by-size = ap (λ (n : ℕ). chosen n (sizeFits n)) (unpacked-length s)
+
+  too-few : sizeFits (length s) ≡ false → load deck (unpacked s) ≡ record { answer = BadSize; cells = unpacked s; regions = [] }
+  too-few e = by-size ∙ ap (chosen (length s)) e
+
+  enough : sizeFits (length s) ≡ true
+      → load deck (unpacked s) ≡ ending (length s) (records (length s) (suc (length deck)) 0 deck (freshBook (length s) []))
+  enough e = by-size ∙ ap (chosen (length s)) e
+
+  -- an outcome in numbers
+  loads-as : (o : LoadOutcome) (b : Bool) {s′ : List ℕ} {r : Loaded} → load deck (unpacked s) ≡ o → sizeFits (length s) ≡ b
+      → r .answer ≡ o .answer → regionsOf (r .regions) ≡ o .regions → r .regions ≡ tableFrom noRegions (o .regions)
+      → s′ ≡ cond b (packed (o .cells)) s
+      → Loads deck s s′ r
+  loads-as o b e f a t u n =
+      record {
+        answer = a ∙ ap (λ x. x .answer) (sym e);
+        regions = t ∙ ap (λ x. x .regions) (sym e);
+        table = u ∙ ap (λ x. tableFrom noRegions (x .regions)) (sym e);
+        numbers = n ∙ (λ i. cond (sym f i) (packed (sym e i .cells)) s);
+      }
+
+all-zero : (n : ℕ) → replicate n 0 ≡ packed (replicate n (word zeros))
+all-zero zero = refl
+all-zero (suc n) = ap (λ (l : List ℕ). 0 ∷ l) (all-zero n)
+
+module _ (deck s : List ℕ) (b : Bool) (size : b ≡ sizeFits (length s)) where
+  pub loads-none : {r : Regions} → not b ≡ true → r ≡ noRegions → Loads deck s s (record { answer = BadSize; regions = r })
+  unfolding tableFrom
+  loads-none e q =
+      loads-as deck s _ false (too-few deck s (sym size ∙ not-true b e)) (sym size ∙ not-true b e) refl (ap regionsOf q ∙ none-held) q
+      refl
+
+  module _ (e : not b ≡ false) (d : Ended) {t : List ℕ} (h : Ends deck s t d) where
+    fits : sizeFits (length s) ≡ true
+    fits = sym size ∙ not-false b e
+
+    comes : (j : Judged) → d .go ≡ j → load deck (unpacked s) ≡ outcomeOf (length s) j (d .at) (d .regions) t
+    comes j q = enough deck s fits ∙ h .is ∙ ap (λ (i : Judged). outcomeOf (length s) i (d .at) (d .regions) t) q
+
+    pub loads-fine : d .go ≡ Fine → Loads deck s t (record { answer = AnswerLoaded; regions = d .regions })
+    loads-fine q = loads-as deck s _ true (comes Fine q) fits refl refl (h .made) (sym (packed-unpacked t (h .formed)))
+
+    pub loads-refused : (f : Fault) {s′ : List ℕ} {r : Regions} → d .go ≡ Refused f → length t ≡ length s → s′ ≡ replicate (length t) 0
+        → r ≡ noRegions → Loads deck s s′ (record { answer = Broken f (d .at); regions = r })
+    unfolding tableFrom
+    loads-refused f q l z p =
+        loads-as deck s _ true (comes (Refused f) q) fits refl (ap regionsOf p ∙ none-held) p
+        (z ∙ ap (λ (n : ℕ). replicate n 0) l ∙ all-zero (length s))

@@ -1,0 +1,56 @@
+-- The lines of a record's block that write.
+use Prim.Native.Nat.{ℕ}
+use mathlib.Core.Bool.{Bool, true, false, _||_}
+use mathlib.Core.List.{List, [], _∷_, _++_}
+use mathlib.Core.Path.{_≡_, refl, ap, sym, _∙_, subst}
+use native.Mathlib.Omega.{arith}
+use lib.ListN.{set}
+use Rattle.paper.specs.Cell.{Region, Cell, word, mkWord, H, J}
+use Rattle.paper.specs.Step.{becomes}
+use Rattle.paper.specs.Deck.{Load, Book, withCells, freshBook}
+use Rattle.cells.specs.Pack.{Packs, AllFormed}
+use Rattle.cells.specs.Bridge.{unpacked}
+use Rattle.cells.proofs.Store.{unpacked-set, formed-set}
+use Rattle.book.specs.declared.Notes.{Notes}
+use Rattle.book.specs.declared.Judged.{Judged}
+use Rattle.book.specs.declared.Judged.the-variants.{Fine}
+use Rattle.book.specs.Kept.{held, bookOf}
+use Rattle.book.specs.Did.{Did}
+use Rattle.deck.specs.declared.Turn.{Turn}
+use Rattle.deck.specs.Load.{ordinary, Made, Turned}
+use Rattle.book.proofs.DidLaws.{changes, then, give, giving}
+use Rattle.sound.specs.declared.Regions.{Regions}
+use Rattle.sound.specs.Table.{regionsOf}
+
+-- H5 and H1 are filled
+pub starts : (c x y : ℕ) {rs : List Region} {k : Notes} {s s₁ s₂ : List ℕ} {m : List Bool} {a : Judged} → s₁ ≡ set s 6 x → s₂ ≡ set s₁ 2 y
+    → Packs x (word (mkWord 0 0 25 0)) → Packs y (word (mkWord 0 0 c 0))
+    → Did (becomes (λ b. withCells b (set (set (b .cells) (H 5) (word (mkWord 0 0 (J 4) 0))) (H 1) (word (mkWord 0 0 c 0)))))
+    (held rs k s m) a (held rs k s₂ m) a tt
+starts c x y {rs} {k} {s} {s₁} {s₂} {m} e f p q =
+    changes _ (held rs k s m) (held rs k s₂ m)
+    (ap (λ (cs : List Cell). withCells (bookOf (held rs k s m)) cs) (rw (f, unpacked-set s₁ 2 y, e, unpacked-set s 6 x, p .unpacks, q .unpacks)))
+    (λ h. rw (f, e) (formed-set (set s 6 x) 2 y (q .formed) (formed-set s 6 x (p .formed) h)))
+
+-- the cells are laid anew, with one region more
+pub lays : (size : ℕ) (x : Region) {rs : List Region} {k k′ : Notes} {s s′ : List ℕ} {m m′ : List Bool} {a : Judged} (rs′ : List Region)
+    → rs′ ≡ rs ++ (x ∷ []) → bookOf (held rs′ k′ s′ m′) ≡ freshBook size rs′ → AllFormed s′
+    → Did (becomes (λ b. freshBook size (b .regions ++ (x ∷ [])))) (held rs k s m) a (held rs′ k′ s′ m′) a tt
+lays size x {rs} {k} {k′} {s} {s′} {m} {m′} rs′ e b f = changes _ (held rs k s m) (held rs′ k′ s′ m′) (ap (freshBook size) (sym e) ∙ sym b) (λ _. f)
+
+-- neither of three
+pub none-holds : (a b c : Bool) → (a || b || c) ≡ false → (a ≡ false) × (c ≡ false)
+none-holds true b c e = let z : _≡_ {A = ℕ} 0 1 = cc in absurd (omega arith)
+none-holds false true c e = let z : _≡_ {A = ℕ} 0 1 = cc in absurd (omega arith)
+none-holds false false c e = (refl, e)
+
+-- a record that is not the start
+pub turned : {M : Load (Unit {0})} {t : Regions} {k : Notes} {s s′ : List ℕ} {m m′ : List Bool} {r : Turn} → r .last ≡ false → Made (r .regions)
+    → Did M (held (regionsOf t) k s m) Fine (held (regionsOf (r .regions)) (r .notes) s′ m′) (r .go) tt → Turned (ordinary M) t k s m s′ m′ r
+unfolding ordinary
+turned l h d = record { did = giving (sym l) (then d give); made = h }
+
+-- a record by the case of x, which is known to be y
+pub turned-as : {A : Type 0} (M : A → Load Bool) {x y : A} {t : Regions} {k : Notes} {s s′ : List ℕ} {m m′ : List Bool} {r : Turn} → x ≡ y
+    → Turned (M y) t k s m s′ m′ r → Turned (M x) t k s m s′ m′ r
+turned-as {A} M {t = t} {k = k} {s = s} {s′ = s′} {m = m} {m′ = m′} {r = r} p d = subst (λ (z : A). Turned (M z) t k s m s′ m′ r) (sym p) d

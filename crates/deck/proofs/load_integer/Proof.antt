@@ -1,0 +1,31 @@
+use Rattle.deck.proofs.RecordLaws.{turned}
+use Rattle.book.proofs.DidLaws.{test, bind}
+use Rattle.paper.specs.Deck.{loadInteger}
+use mathlib.Core.Path.{refl}
+use borrow.Author.Needs.{needs}
+use Rattle.deck.proofs.load_integer.Statement.{statement}
+use Rattle.deck.proofs.load_integer.Tie as tie
+
+returns : tie.Need-returns
+unfolding loadInteger
+returns c =
+    let c₁ = c .before .before in
+    let c₂ = c₁ .before in
+    let c₃ = c₂ .before .before .before .before .before .before .before in
+    let c₄ = c₃ .before .before .before in
+    let c₅ = c₄ .before .before .before .before in
+    turned refl (c₅ .pre)
+    (test (c₄ .name-fits .ensures) (record { regions = refl; opened = refl; locals = refl; names = refl; waiting = refl })
+    (bind _ (c₃ .cell-for .ensures) ((c₁ .fill .ensures) _ _ (c₂ .of-integer .ensures) _ _)))
+
+pub load-integer-spec : {M : Type 1} → statement M
+load-integer-spec =
+    tie.close
+    (tie.spec
+    (λ c κs. search needs)
+    (λ c κs. search needs)
+    (λ c κs. search needs)
+    (λ c κs. search needs)
+    (λ c. search needs)
+    (λ c. search needs)
+    returns)

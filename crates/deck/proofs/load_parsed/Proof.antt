@@ -1,0 +1,45 @@
+use Rattle.deck.proofs.RecordLaws.{turned-as}
+use Rattle.deck.specs.Load.{oneParsed, oneRecord, AllLettered}
+use Rattle.book.proofs.DidLaws.{bind, give, stop, skipped}
+use Rattle.records.specs.Symbols.{parsedOf}
+use Rattle.paper.specs.Record.{start}
+use Rattle.paper.specs.Deck.{given}
+use lib.ListN.{length}
+use mathlib.Core.Path.{subst, refl}
+use borrow.Author.Needs.{needs}
+use Rattle.deck.proofs.load_parsed.Statement.{statement}
+use Rattle.deck.proofs.load_parsed.Tie as tie
+
+load-record-requires : tie.Need-load-record-requires
+load-record-requires c κs =
+    let c₁ = c .before .before .before in
+    let c₂ = c₁ .before .before .before .before in
+    (c₂ .pre .0, c₂ .pre .1, subst AllLettered (c₁ .x .given .1) (c₂ .pre .2))
+
+returns : tie.Need-returns
+unfolding oneParsed given
+returns c =
+    let c₁ = c .before .before .before .before in
+    turned-as (λ y. oneParsed (length (c₁ .args .cells .now)) (parsedOf y)) (c .enum-told .given .1)
+    (record { did = bind (oneRecord _) (stop _ {v = start 0 0} refl) skipped; made = (c₁ .pre .0) })
+
+returns-2 : tie.Need-returns-2
+unfolding oneParsed given
+returns-2 c =
+    let c₁ = c .before .before .before .before in
+    let c₂ = c₁ .before .before .before .before in
+    let c₃ = c₂ .before .before .before .before in
+    turned-as (λ y. oneParsed (length (c₃ .args .cells .now)) (parsedOf y)) (c₂ .x .given .1)
+    (record { did = bind (oneRecord _) give (c₁ .load-record .ensures .did); made = (c₁ .load-record .ensures .made) })
+
+pub load-parsed-spec : {M : Type 1} → statement M
+load-parsed-spec =
+    tie.close
+    (tie.spec
+    (λ c. search needs)
+    (λ c. search needs)
+    load-record-requires
+    returns
+    (λ c. search needs)
+    (λ c. search needs)
+    returns-2)

@@ -1,0 +1,68 @@
+use Rattle.deck.proofs.TableLaws.{listed, made-more}
+use Rattle.deck.proofs.RecordLaws.{turned, lays, none-holds}
+use Rattle.deck.specs.Load.{Made}
+use Rattle.book.proofs.DidLaws.{test, sees, skipped, judged-yes, judged-no}
+use Rattle.book.specs.Did.{Always}
+use Rattle.sound.specs.Table.{regionsOf}
+use Rattle.paper.specs.Deck.{loadRegion}
+use lib.ListN.{length}
+use borrow.Author.Tests.{ltb-false}
+use mathlib.Core.Path.{_≡_, refl, ap, sym, subst, _∙_}
+use Prim.Native.Nat.{_+_}
+use native.Mathlib.Omega.{arith}
+use borrow.Author.Needs.{needs}
+use Rattle.deck.proofs.load_region.Statement.{statement}
+use Rattle.deck.proofs.load_region.Tie as tie
+
+returns : tie.Need-returns
+unfolding loadRegion
+returns c =
+    let c₁ = c .before .before in
+    let c₂ = c₁ .before in
+    let c₃ = c₂ .before .before .before in
+    turned refl (c₃ .pre .0)
+    (sees _ _ (sym (c₁ .letter-taken .ensures))
+    (sees _ _ refl (sees _ _ (sym (c₂ .top .ensures)) (test (judged-yes {K = Always} _ _ (c .if1 .taken) refl) tt skipped))))
+
+-- the table's arrays have 23 places
+sized : (c : tie.After-slice-known4)
+    → let r = c .before .before .before .before .before .before .before .before .before .before .before .before .before .before .args .regions in (length (r .letters) ≡ 23) × (length (r .counts) ≡ 23)
+sized c =
+    let g = c .before .before .before .before .before .before .before .before .before .before .before .before .before .before .good .1 .1 .0 in
+    (search needs, search needs)
+
+returns-2 : tie.Need-returns-2
+unfolding loadRegion
+returns-2 c =
+    let c₁ = c .before .before .before .before in
+    let c₂ = c₁ .before .before .before in
+    let c₃ = c₂ .before in
+    let c₄ = c₃ .before .before in
+    let c₅ = c₄ .before in
+    let c₆ = c₅ .before .before .before in
+    let z = sized c in
+    let no = none-holds (c₄ .letter-taken .result) (c₆ .args .notes .words) _ (c₃ .if1 .left) in
+    let new = sym (c₄ .letter-taken .ensures) ∙ no .0 in
+    let fits = ltb-false (length (c₆ .args .cells .now)) ((c₅ .top .result) + (c₆ .args .n)) (no .1) in
+    let more = ap regionsOf (c₂ .with .ensures) ∙ listed (c₆ .args .regions) _ _ (z .0) (z .1) (c₆ .pre .0) (c₆ .pre .2) new in
+    turned refl
+    (subst Made (sym (c₂ .with .ensures))
+    (made-more (c₆ .args .regions) _ _ (z .0) (z .1) (c₆ .pre .0) (c₆ .pre .2) new (omega (arith, c₅ .top .ensures, c₆ .pre .1 .few))))
+    (sees _ _ (sym (c₄ .letter-taken .ensures))
+    (sees _ _ refl
+    (sees _ _ (sym (c₅ .top .ensures))
+    (test (judged-no {K = Always} _ _ (c₃ .if1 .left)) tt (lays _ _ _ more (c₁ .begin .ensures .0) (c₁ .begin .ensures .1))))))
+
+pub load-region-spec : {M : Type 1} → statement M
+load-region-spec =
+    tie.close
+    (tie.spec
+    (λ c κs. search needs)
+    (λ c. search needs)
+    (λ c κs. search needs)
+    returns
+    (λ c κs. search needs)
+    (λ c κs. search needs)
+    (λ c. search needs)
+    (λ c. search needs)
+    returns-2)

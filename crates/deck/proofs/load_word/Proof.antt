@@ -1,0 +1,72 @@
+use Rattle.deck.proofs.RecordLaws.{turned}
+use Rattle.book.proofs.DidLaws.{test, bind, alike}
+use Rattle.paper.specs.Deck.{loadWord, fill}
+use mathlib.Core.Path.{refl, ap}
+use native.Mathlib.Omega.{arith}
+use borrow.Author.Needs.{needs}
+use Rattle.deck.proofs.load_word.Statement.{statement}
+use Rattle.deck.proofs.load_word.Tie as tie
+
+cell-named-requires : tie.Need-cell-named-requires
+cell-named-requires c κs =
+    let c′ = c .before .before .before .before .before .before .before .before .before .before .before .before .before .before in
+    let c₁ = c′ .before .before .before in
+    c₁ .pre .laid
+
+cell-named-requires-2 : tie.Need-cell-named-requires-2
+cell-named-requires-2 c κs =
+    let c′ = c .before .before .before .before .before .before .before .before .before .before .before .before .before .before in
+    let c₁ = c′ .before .before .before .before .before .before .before .before in
+    c₁ .pre .laid
+
+same-length : tie.Need-same-length
+same-length c =
+    let c₁ = c .before .before in
+    let c₂ = c₁ .before .before .before .before .before .before .before in
+    let c₃ = c₂ .before .before .before .before .before in
+    let c₄ = c₃ .before .before .before .before .before .before .before in
+    omega (arith, c₁ .fill .kept .0, c₂ .cell-named2 .kept .0, c₃ .cell-named .kept .0, c₄ .cell-for .kept .0)
+
+returns : tie.Need-returns
+unfolding loadWord
+returns c =
+    let c₁ = c .before .before in
+    let c₂ = c₁ .before in
+    let c₃ = c₂ .before .before in
+    let c₄ = c₃ .before .before .before .before in
+    let c₅ = c₄ .before .before .before .before .before in
+    let c₆ = c₅ .before .before .before .before .before .before .before in
+    let c₇ = c₆ .before .before .before in
+    let c₈ = c₇ .before in
+    let c₉ = c₈ .before in
+    let c₁₀ = c₉ .before in
+    let c₁₁ = c₁₀ .before in
+    let c₁₂ = c₁₁ .before .before .before .before in
+    turned refl (c₁₂ .pre)
+    (test (c₁₁ .name-fits .ensures) (record { regions = refl; opened = refl; locals = refl; names = refl; waiting = refl })
+    (test (c₁₀ .known .ensures) refl
+    (test (c₉ .has-structure .ensures) refl
+    (test (c₈ .known2 .ensures) refl
+    (test (c₇ .has-structure2 .ensures) refl
+    (bind _ (c₆ .cell-for .ensures)
+    (bind _ ((c₅ .cell-named .ensures) _)
+    (bind _ ((c₄ .cell-named2 .ensures) _) (alike (ap (fill _ _) (c₂ .is-blank .ensures)) ((c₁ .fill .ensures) _ _ (c₃ .of-fields .ensures) _ _))))))))))
+
+pub load-word-spec : {M : Type 1} → statement M
+load-word-spec =
+    tie.close
+    (tie.spec
+    (λ c κs. search needs)
+    (λ c κs. search needs)
+    (λ c κs. search needs)
+    (λ c κs. search needs)
+    (λ c κs. search needs)
+    (λ c κs. search needs)
+    cell-named-requires
+    cell-named-requires-2
+    (λ c κs. search needs)
+    (λ c κs. search needs)
+    (λ c κs. search needs)
+    same-length
+    (λ c. search needs)
+    returns)

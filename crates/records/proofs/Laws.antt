@@ -1,0 +1,212 @@
+-- Laws of symbols and records: a symbol by its class, an integer's value, a record by its kind.
+use Prim.Native.Nat.{ℕ, zero, suc, _+_, _-_, _*_, _^_, _<_, _≤_}
+use mathlib.Core.Bool.{Bool, true, false, cond, _&&_, and-false}
+use mathlib.Core.List.{List, [], _∷_}
+use mathlib.Core.Logic.{_⊎_, ⊎-elim}
+use mathlib.Core.Option.{Option, none, some}
+use mathlib.Core.Path.{_≡_, refl, ap, _∙_, sym, subst}
+use native.Mathlib.Omega.{arith}
+use native.Mathlib.Decide.{ℕ-discrete}
+use borrow.Author.Tests.{lt-ltb, le-ltb, le-leb, lt-leb, eq-eqb, ne-eqb}
+use lib.Dec.{eqb, ltb, leb}
+use lib.ListN.{getD}
+use lib.IntN.{ℤ, pos, negsuc}
+use Rattle.paper.specs.Step.{choose}
+use Rattle.paper.specs.declared.Field.{Field}
+use Rattle.paper.specs.declared.Field.the-variants.{Regional, Local, Zero, Blank}
+use Rattle.paper.specs.Record.{Record, region, routine, datum, number, start, field, guard, signed32, byteAt, recordAt, regionAt, routineAt}
+use Rattle.paper.specs.Record.{datumAt, numberAt, startAt, startWith, onField, mayName, maySymb, mayLinkData, pairAt, fieldAt}
+use Rattle.paper.specs.Sound.{isLetter}
+use Rattle.cells.specs.Layout.{valueOf}
+use Rattle.records.specs.Symbols.{Written, symbolsIn, placeOf, symbolAt}
+use Rattle.cells.proofs.Laws.{value-low, value-high}
+
+-- a decision, one test after another
+module _ {A : Type 0} where
+  choose-cond : (t : Bool) (x : A) (cs : List (Bool × A)) (d : A) → choose ((t, x) ∷ cs) d ≡ cond t x (choose cs d)
+  unfolding choose
+  choose-cond true x cs d = refl
+  choose-cond false x cs d = refl
+
+  choose-none : (d : A) → choose [] d ≡ d
+  unfolding choose
+  choose-none d = refl
+
+pub guard-cond : {A : Type 0} (t : Bool) (x : Option A) → guard t x ≡ cond t x none
+unfolding guard
+guard-cond true x = refl
+guard-cond false x = refl
+
+-- a number that is none of 1 to 5 is no kind
+pub no-kind : (a b c d e : ℕ) (k : ℕ) → (k ≡ 1 → ⊥) → (k ≡ 2 → ⊥) → (k ≡ 3 → ⊥) → (k ≡ 4 → ⊥) → (k ≡ 5 → ⊥)
+    → 0 ≡ getD (0 ∷ a ∷ b ∷ c ∷ d ∷ e ∷ []) k 0
+no-kind a b c d e zero p q r s t = refl
+no-kind a b c d e (suc zero) p q r s t = absurd (p refl)
+no-kind a b c d e (suc (suc zero)) p q r s t = absurd (q refl)
+no-kind a b c d e (suc (suc (suc zero))) p q r s t = absurd (r refl)
+no-kind a b c d e (suc (suc (suc (suc zero)))) p q r s t = absurd (s refl)
+no-kind a b c d e (suc (suc (suc (suc (suc zero))))) p q r s t = absurd (t refl)
+no-kind a b c d e (suc (suc (suc (suc (suc (suc k)))))) p q r s t = refl
+
+-- a symbol by its class
+module _ (b n : ℕ) where
+  pub field-regional : 65 ≤ b → b ≤ 90 → field b n ≡ cond (leb n 9999) (some (Regional b n)) none
+  unfolding field
+  field-regional g h =
+      simp (
+        choose-cond,
+        choose-none,
+        le-leb 65 b g,
+        le-leb b 90 h,
+        ne-eqb b 57 (λ e. omega arith),
+        ne-eqb b 48 (λ e. omega arith),
+        ne-eqb b 32 (λ e. omega arith),
+      )
+
+  pub field-other : (b < 65) ⊎ (90 < b) → (b ≡ 57 → ⊥) → (b ≡ 48 → ⊥) → (b ≡ 32 → ⊥) → none ≡ field b n
+  unfolding field
+  field-other g p q r = simp (choose-cond, choose-none, no-letter, ne-eqb b 57 p, ne-eqb b 48 q, ne-eqb b 32 r)
+    where
+      no-letter : isLetter b ≡ false
+      no-letter = ⊎-elim (λ (h : b < 65). simp (lt-leb 65 b h)) (λ (h : 90 < b). simp (lt-leb b 90 h, and-false)) g
+
+pub field-local : (n : ℕ) → field 57 n ≡ cond (leb n 63) (some (Local n)) none
+unfolding field
+field-local n = simp (choose-cond, choose-none)
+
+pub field-zero : (n : ℕ) → field 48 n ≡ cond (eqb n 0) (some Zero) none
+unfolding field
+field-zero n = simp (choose-cond, choose-none)
+
+pub field-blank : (n : ℕ) → field 32 n ≡ cond (eqb n 0) (some Blank) none
+unfolding field
+field-blank n = simp (choose-cond, choose-none)
+
+-- an integer of 32 bits, and its value + 2 ^ 31
+signed-low : (t : Bool) (x y : ℤ) → t ≡ true → _≡_ {A = ℤ} (elim t as (λ _. ℤ) [ true ↦ x | false ↦ y ]) x
+signed-low t x y e = rw e
+
+signed-high : (t : Bool) (x y : ℤ) → t ≡ false → _≡_ {A = ℤ} (elim t as (λ _. ℤ) [ true ↦ x | false ↦ y ]) y
+signed-high t x y e = rw e
+
+pub excess-low : (n : ℕ) → n < 2 ^ 31 → valueOf (n + 2 ^ 31) ≡ signed32 n
+unfolding signed32
+excess-low n h =
+    let e : n + 2 ^ 31 - 2 ^ 31 ≡ n = omega arith in
+    value-high (n + 2 ^ 31) (omega arith) ∙ ap pos e ∙ sym (signed-low (ltb n (2 ^ 31)) (pos n) (negsuc (2 ^ 32 - 1 - n)) (lt-ltb n (2 ^ 31) h))
+
+pub excess-high : (n : ℕ) → 2 ^ 31 ≤ n → n < 2 ^ 32 → valueOf (n - 2 ^ 31) ≡ signed32 n
+unfolding signed32
+excess-high n g h =
+    let e : 2 ^ 31 - suc (n - 2 ^ 31) ≡ 2 ^ 32 - 1 - n = omega arith in
+    value-low (n - 2 ^ 31) (omega arith) ∙ ap negsuc e ∙ sym (signed-high (ltb n (2 ^ 31)) (pos n) (negsuc (2 ^ 32 - 1 - n)) (le-ltb n (2 ^ 31) g))
+
+-- a record by its kind
+module _ (r : List ℕ) where
+  kind-2 : byteAt r 0 ≡ 2 → recordAt r ≡ routineAt r
+  unfolding recordAt
+  kind-2 k = simp (choose-cond, k)
+
+  kind-3 : byteAt r 0 ≡ 3 → recordAt r ≡ datumAt r
+  unfolding recordAt
+  kind-3 k = simp (choose-cond, k)
+
+  kind-4 : byteAt r 0 ≡ 4 → recordAt r ≡ numberAt r
+  unfolding recordAt
+  kind-4 k = simp (choose-cond, k)
+
+  kind-5 : (kind : ℕ) → kind ≡ byteAt r 0 → (kind ≡ 1 → ⊥) → (kind ≡ 2 → ⊥) → (kind ≡ 3 → ⊥) → (kind ≡ 4 → ⊥) → recordAt r ≡ startAt r
+  unfolding recordAt
+  kind-5 kind k a b c d = simp (choose-cond, choose-none, ← k, ne-eqb kind 1 a, ne-eqb kind 2 b, ne-eqb kind 3 c, ne-eqb kind 4 d)
+
+one-symbol : (kind : ℕ) → (kind ≡ 1 → ⊥) → (kind ≡ 2 → ⊥) → (kind ≡ 3 → ⊥) → symbolsIn kind ≡ 1
+one-symbol kind a b c = simp (ne-eqb kind 1 a, ne-eqb kind 2 b, ne-eqb kind 3 c)
+
+-- from its symbols
+module _ (r : List ℕ) (fs : List Field) (kind : ℕ) (k : kind ≡ byteAt r 0) (w : Written kind r fs (symbolsIn kind)) where
+  written : (n : ℕ) → kind ≡ n → Written n r fs (symbolsIn n)
+  written n e = subst (λ (x : ℕ). Written x r fs (symbolsIn x)) e w
+
+  pub record-1 : kind ≡ 1
+      → recordAt r ≡ guard (isLetter (byteAt r 1) && leb 1 (pairAt r 2) && leb (pairAt r 2) 9999) (some (region (byteAt r 1) (pairAt r 2)))
+  unfolding recordAt regionAt
+  record-1 e = simp (choose-cond, sym k ∙ e)
+
+  pub record-2 : kind ≡ 2
+      → recordAt r ≡ guard (mayName (symbolAt fs 0) && maySymb (symbolAt fs 1) && leb (byteAt r 4) 7 && leb (byteAt r 5) 2)
+      (some (routine (symbolAt fs 0) (byteAt r 4) (byteAt r 5) (symbolAt fs 1) (symbolAt fs 2)))
+  unfolding routineAt onField
+  record-2 e = let v = written 2 e in kind-2 r (sym k ∙ e) ∙ simp (v .are 0 (omega arith), v .are 1 (omega arith), v .are 2 (omega arith))
+
+  pub record-3 : kind ≡ 3
+      → recordAt r ≡ guard (mayName (symbolAt fs 0) && mayLinkData (symbolAt fs 2)) (some (datum (symbolAt fs 0) (symbolAt fs 1) (symbolAt fs 2)))
+  unfolding datumAt onField
+  record-3 e = let v = written 3 e in kind-3 r (sym k ∙ e) ∙ simp (v .are 0 (omega arith), v .are 1 (omega arith), v .are 2 (omega arith))
+
+  pub record-4 : kind ≡ 4
+      → recordAt r ≡ guard (mayName (symbolAt fs 0)) (some (number (symbolAt fs 0) (signed32 (pairAt r 4 * 65536 + pairAt r 6))))
+  unfolding numberAt onField
+  record-4 e = kind-4 r (sym k ∙ e) ∙ simp (written 4 e .are 0 (omega arith))
+
+  pub record-5 : (kind ≡ 1 → ⊥) → (kind ≡ 2 → ⊥) → (kind ≡ 3 → ⊥) → (kind ≡ 4 → ⊥) → recordAt r ≡ startWith (symbolAt fs 0)
+  unfolding startAt onField
+  record-5 a b c d = kind-5 r kind k a b c d ∙ simp (w .are 0 (omega (arith, one-symbol kind a b c)))
+
+-- a symbol that is not well written spoils its record
+module _ {A : Type 0} (o : Option Field) (f : Field → Option A) where
+  none-first : o ≡ none → onField o f ≡ none
+  unfolding onField
+  none-first e = rw e
+
+  none-after : ((x : Field) → f x ≡ none) → onField o f ≡ none
+  unfolding onField
+  none-after h = go o
+    where
+      go : (o : Option Field) → onField o f ≡ none
+      go none = refl
+      go (some x) = h x
+
+module _ (r : List ℕ) where
+  bad-routine : (i : ℕ) → i < 3 → fieldAt r (placeOf 2 i) ≡ none → routineAt r ≡ none
+  unfolding routineAt
+  bad-routine zero h e = none-first _ _ e
+  bad-routine (suc zero) h e = none-after _ _ λ x. none-first _ _ e
+  bad-routine (suc (suc zero)) h e = none-after _ _ λ x. none-after _ _ λ y. none-first _ _ e
+  bad-routine (suc (suc (suc i))) h e = absurd (omega arith)
+
+  bad-datum : (i : ℕ) → i < 3 → fieldAt r (placeOf 3 i) ≡ none → datumAt r ≡ none
+  unfolding datumAt
+  bad-datum zero h e = none-first _ _ e
+  bad-datum (suc zero) h e = none-after _ _ λ x. none-first _ _ e
+  bad-datum (suc (suc zero)) h e = none-after _ _ λ x. none-after _ _ λ y. none-first _ _ e
+  bad-datum (suc (suc (suc i))) h e = absurd (omega arith)
+
+  bad-only : (kind i : ℕ) → i < 1 → fieldAt r (placeOf kind i) ≡ none → fieldAt r 1 ≡ none
+  bad-only kind zero h e = e
+  bad-only kind (suc i) h e = absurd (omega arith)
+
+  pub bad-symbol : (kind i : ℕ) → kind ≡ byteAt r 0 → i < symbolsIn kind → fieldAt r (placeOf kind i) ≡ none → recordAt r ≡ none
+  unfolding numberAt startAt
+  bad-symbol kind i k h e = go (ℕ-discrete kind 1) (ℕ-discrete kind 2) (ℕ-discrete kind 3) (ℕ-discrete kind 4)
+    where
+      at : (n : ℕ) → kind ≡ n → i < symbolsIn n
+      at n p = subst (λ (x : ℕ). i < symbolsIn x) p h
+
+      there : (n : ℕ) → kind ≡ n → fieldAt r (placeOf n i) ≡ none
+      there n p = subst (λ (x : ℕ). fieldAt r (placeOf x i) ≡ none) p e
+
+      go : Dec (kind ≡ 1) → Dec (kind ≡ 2) → Dec (kind ≡ 3) → Dec (kind ≡ 4) → recordAt r ≡ none
+      go (yes p) _ _ _ = absurd (omega (arith, at 1 p))
+      go (no a) (yes p) _ _ = kind-2 r (sym k ∙ p) ∙ bad-routine i (at 2 p) (there 2 p)
+      go (no a) (no b) (yes p) _ = kind-3 r (sym k ∙ p) ∙ bad-datum i (at 3 p) (there 3 p)
+      go (no a) (no b) (no c) (yes p) = kind-4 r (sym k ∙ p) ∙ none-first _ _ (bad-only 4 i (at 4 p) (there 4 p))
+      go (no a) (no b) (no c) (no d) = kind-5 r kind k a b c d ∙ none-first _ _ (bad-only kind i (omega (arith, h, one-symbol kind a b c)) e)
+
+pub few-symbols : (kind : ℕ) → symbolsIn kind ≤ 3
+few-symbols kind = go (eqb kind 1) (eqb kind 2) (eqb kind 3)
+  where
+    go : (a b c : Bool) → cond a 0 (cond b 3 (cond c 3 1)) ≤ 3
+    go true b c = omega arith
+    go false true c = omega arith
+    go false false true = omega arith
+    go false false false = omega arith

@@ -1,0 +1,49 @@
+-- What the code reads of a record, as the definitions have it: a symbol, a record, and where the symbols of a record stand.
+use Prim.Native.Nat.{ℕ, _<_}
+use mathlib.Core.Bool.{cond}
+use mathlib.Core.List.{List, [], _∷_}
+use mathlib.Core.Option.{Option, none, some}
+use mathlib.Core.Path.{_≡_}
+use lib.Dec.{eqb}
+use lib.ListN.{getD}
+use Rattle.paper.specs.declared.Field.{Field}
+use Rattle.paper.specs.declared.Field.the-variants.{Regional}
+use Rattle.paper.specs.Record.{Record, region, routine, datum, number, start, fieldAt}
+use Rattle.cells.specs.Layout.{valueOf}
+use Rattle.records.specs.declared.Read.{Read}
+use Rattle.records.specs.declared.Read.the-variants.{Symbol, Nothing}
+use Rattle.records.specs.declared.Record.{Record as CodeRecord}
+use Rattle.records.specs.declared.Record.the-variants.{Region, Routine, Datum, Number, Start}
+use Rattle.records.specs.declared.Parsed.{Parsed}
+use Rattle.records.specs.declared.Parsed.the-variants.{Is, Nothing as NoRecord}
+
+abbrev pub readOf : Read → Option Field
+readOf (Symbol f) = some f
+readOf Nothing = none
+
+abbrev pub recordOf : CodeRecord → Record
+recordOf (Region b n) = region b n
+recordOf (Routine name p q symb link) = routine name p q symb link
+recordOf (Datum name symb link) = datum name symb link
+recordOf (Number name v) = number name (valueOf v)
+recordOf (Start b n) = start b n
+
+abbrev pub parsedOf : Parsed → Option Record
+parsedOf (Is x) = some (recordOf x)
+parsedOf NoRecord = none
+
+-- how many symbols a record has by its kind: a word NAME, SYMB and LINK, an integer its NAME, the last record the start symbol
+abbrev pub symbolsIn : ℕ → ℕ
+symbolsIn kind = cond (eqb kind 1) 0 (cond (eqb kind 2) 3 (cond (eqb kind 3) 3 1))
+
+-- where symbol i stands: P and Q of a routine word come before its SYMB
+abbrev pub placeOf : ℕ → ℕ → ℕ
+placeOf kind i = cond (eqb i 0) 1 (cond (eqb i 1) (cond (eqb kind 2) 6 4) (cond (eqb kind 2) 9 7))
+
+-- past the end of an array, as the code's own reading has it
+abbrev pub symbolAt : List Field → ℕ → Field
+symbolAt fs i = getD fs i (Regional 0 0)
+
+-- the first n symbols of the record r are well written, and are these
+pub record Written (kind : ℕ) (r : List ℕ) (fs : List Field) (n : ℕ) : Type 0 where
+  pub are : (i : ℕ) → i < n → fieldAt r (placeOf kind i) ≡ some (symbolAt fs i)
