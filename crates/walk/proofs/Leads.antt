@@ -50,10 +50,11 @@ module _ {A : Type 0} (M : Act A) (s : List ℕ) (v : A) (P : A → Type 0) (J :
       let t = stateOf none s in
       subst (λ (r : Res State Refusal A). After r (λ a t. J a t × P a)) (came a t (d .is none tt .is)) (f .at t (unpacked-length s)) .1
 
--- from the start, with z₀ cells without marks, the loop has come to `here`, with z
+-- whatever the block `here` comes to, the block `start` comes to
 abbrev Carries : List ℕ → Act (List ℕ) → Act (List ℕ) → Type 0
 Carries s here start = (r : Acted) (v : List ℕ) → Reads Always here s Done r v → Reads Always start s Done r v
 
+-- from the start, with z₀ cells without marks, the loop has come to `here`, with z
 abbrev pub Leads : List ℕ → (ℕ → Act (List ℕ)) → ℕ → (ℕ → Act (List ℕ)) → ℕ → Type 0
 Leads s start z₀ here z = (f : ℕ) → z₀ < f → (g : ℕ) × (z < g) × Carries s (here g) (start f)
 

@@ -9,7 +9,7 @@ use borrow.Author.Tests.{ltb-true, ltb-false}
 use Rattle.paper.specs.declared.Refusal.the-variants.{BadWalk}
 use Rattle.paper.specs.Cell.{Word, Cell, free, isFree, cellAt, State}
 use Rattle.paper.specs.Act.{Act, _>>=_, _>>_, ret, refuseIf, touch, wordAt, named, notOwn, peek}
-use Rattle.paper.specs.Walk.{member, meet, chain}
+use Rattle.paper.specs.Walk.{member, meet}
 use Rattle.paper.proofs.Safe.{Safe, Any, bind, seq, safe-ret, safe-ret-at, safe-refuseIf}
 use Rattle.paper.proofs.SoundStore.{never, or-false}
 

@@ -19,10 +19,11 @@ abbrev pub Once : List ℕ → Type 0
 Once [] = Unit {0}
 Once (c ∷ cs) = (member c cs ≡ false) × Once cs
 
--- the cells of `seen` are marked, and no others; no others are
+-- the marked cells are those of `seen`
 pub record Marked (marks seen : List ℕ) : Type 0 where
   pub is : (c : ℕ) → not (eqb (getD marks c 0) 0) ≡ member c seen
 
+-- no cell outside `seen` is marked
 pub record Only (marks seen : List ℕ) : Type 0 where
   pub is : (c : ℕ) → member c seen ≡ false → getD marks c 0 ≡ 0
 

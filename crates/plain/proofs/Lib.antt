@@ -1,0 +1,2 @@
+-- Laws of the plain actions.
+pub mod Settled

@@ -1,0 +1,104 @@
+-- A plain action by what its code did: the answers 1 and 20, and an action that was done or undone.
+use Prim.Native.Nat.{ℕ, suc, _≤_}
+use mathlib.Core.Path.{_≡_, refl, sym, ap, _∙_}
+use mathlib.Core.Bool.{Bool, true, false}
+use mathlib.Core.List.{List, []}
+use lib.ListN.{length, replicate}
+use lib.Dec.{leb}
+use borrow.Author.Tests.{leb-true}
+use Rattle.paper.specs.declared.RunAnswer.{RunAnswer}
+use Rattle.paper.specs.declared.RunAnswer.the-variants.{Finished, BadSize, NotSound, Refused as Stopped}
+use Rattle.paper.specs.Cell.{State, sizeFits}
+use Rattle.paper.specs.Sound.{sound}
+use Rattle.paper.specs.Act.{Act, done, refused, _>>_, ret, refuse}
+use Rattle.paper.specs.Plain.{acted, afterAct, plainly}
+use Rattle.paper.proofs.SoundStore.{and-true}
+use Rattle.cells.specs.Pack.{AllFormed}
+use Rattle.cells.specs.Bridge.{unpacked}
+use Rattle.cells.proofs.Store.{unpacked-length, packed-unpacked}
+use Rattle.undo.specs.declared.Acted.{Acted}
+use Rattle.undo.specs.declared.Acted.the-variants.{Done, Refused}
+use Rattle.undo.specs.Log.{used}
+use Rattle.undo.specs.Did.{left, Top, Did}
+use Rattle.undo.proofs.Log.{rewind-empty}
+use Rattle.sound.specs.declared.Regions.{Regions}
+use Rattle.sound.specs.Table.{regionsOf}
+use Rattle.sound.specs.Store.{stateWith, storeSound}
+use Rattle.sound.proofs.SoundLaws.{passed-formed, passed-sound, in-form}
+use Rattle.plain.specs.Numbers.{numbers, inNumbers, plainOn, Passed, settledAs}
+
+module _ (m : Act (Unit {0})) (r : Regions) (s : List ℕ) where
+  -- 1 and 20
+  pub plain-size : sizeFits (length s) ≡ false → numbers BadSize s ≡ plainOn m r s
+  unfolding plainOn
+  plain-size e = rw (e, plainOn)
+
+  pub plain-unsound : sizeFits (length s) ≡ true → storeSound r s ≡ false → numbers NotSound s ≡ plainOn m r s
+  unfolding plainOn
+  plain-unsound e f = rw (e, f, plainOn)
+
+  -- what `plainly` says of the store
+  abbrev st : State
+  st = stateWith r s [] 0
+
+  size-is : {b : Bool} → sizeFits (length s) ≡ b → sizeFits (length (unpacked s)) ≡ b
+  size-is e = ap sizeFits (unpacked-length s) ∙ e
+
+  says-size : sizeFits (length s) ≡ false → plainly m st ≡ acted BadSize st
+  unfolding plainly
+  says-size e = rw (size-is e, plainly)
+
+  says-unsound : sizeFits (length s) ≡ true → sound st ≡ false → plainly m st ≡ acted NotSound st
+  unfolding plainly
+  says-unsound e f = rw (size-is e, f, plainly)
+
+  says-acts : sizeFits (length s) ≡ true → sound st ≡ true → plainly m st ≡ afterAct st (m st)
+  unfolding plainly
+  says-acts e f = rw (size-is e, f, plainly)
+
+  plain-acts : sizeFits (length s) ≡ true → storeSound r s ≡ true → inNumbers (plainly m st) ≡ plainOn m r s
+  unfolding plainOn
+  plain-acts e f = rw (e, f, plainOn)
+
+  module _ {top : ℕ} (p : Passed r s top) where
+    done-or-not : inNumbers (afterAct st (m st)) ≡ plainOn m r s
+    done-or-not = ap inNumbers (sym (says-acts (p .size) (passed-sound r s [] 0 (p .sound)))) ∙ plain-acts (p .size) (p .sound)
+
+    came : (a : Acted) {k : ℕ} {l s₁ l₁ : List ℕ} → Did (Top top) k m s l Done s₁ l₁ a tt → m st ≡ (left a >> ret tt) (stateWith r s₁ [] 0)
+    unfolding left _>>_ ret
+    came a d = d .is (record { regions = regionsOf r; lines = []; room = 0 }) (p .end) .is
+
+    -- an action that was done leaves its cells; one that was refused, the numbers as they were
+    pub plain-settled : (a : Acted) {k : ℕ} {l s₁ l₁ : List ℕ} → used l ≡ 0 → Did (Top top) k m s l Done s₁ l₁ a tt
+        → settledAs a l₁ s₁ ≡ plainOn m r s
+    unfolding left _>>_ ret refuse afterAct
+    plain-settled Done {s₁ = s₁} u d =
+        ap (numbers Finished) (sym (packed-unpacked s₁ (d .formed (passed-formed r s (p .sound)))))
+        ∙ ap (λ x. inNumbers (afterAct st x)) (sym (came Done d)) ∙ done-or-not
+    plain-settled (Refused e) {l = l} u d =
+        ap (numbers (Stopped e)) (d .back ∙ rewind-empty l s u ∙ sym (packed-unpacked s (passed-formed r s (p .sound))))
+        ∙ ap (λ x. inNumbers (afterAct st x)) (sym (came (Refused e) d)) ∙ done-or-not
+
+  -- numbers and a table in form: `plainly` itself, whatever the store
+  module _ (n : r .n ≤ 23) (f : AllFormed s) where
+    kept : (a : RunAnswer) → numbers a s ≡ inNumbers (acted a st)
+    kept a = ap (numbers a) (sym (packed-unpacked s f))
+
+    at-sound : sizeFits (length s) ≡ true → (b : Bool) → storeSound r s ≡ b → plainOn m r s ≡ inNumbers (plainly m st)
+    at-sound e true g = sym (plain-acts e g)
+    at-sound e false g = sym (plain-unsound e g) ∙ kept NotSound ∙ ap inNumbers (sym (says-unsound e (sym (in-form r s [] 0 n f) ∙ g)))
+
+    pub plain-is : plainOn m r s ≡ inNumbers (plainly m st)
+    plain-is = at-size (sizeFits (length s)) refl
+      where
+        at-size : (b : Bool) → sizeFits (length s) ≡ b → plainOn m r s ≡ inNumbers (plainly m st)
+        at-size true e = at-sound e (storeSound r s) refl
+        at-size false e = sym (plain-size e) ∙ kept BadSize ∙ ap inNumbers (sym (says-size e))
+
+-- "N from 256 to 16,384"
+pub size-range : (n : ℕ) → sizeFits n ≡ true → (256 ≤ n) × (n ≤ 16384)
+size-range n e = let (a, b) = and-true (leb 256 n) (leb n 16384) e in (leb-true 256 n a, leb-true n 16384 b)
+
+-- a new log holds no writes
+pub empty : (n : ℕ) → used (replicate (suc n) 0) ≡ 0
+empty n = refl

@@ -1,0 +1,64 @@
+use Prim.Native.Nat.{ℕ}
+use mathlib.Core.Path.{refl, _∙_, subst}
+use native.Mathlib.Omega.{arith}
+use lib.ListN.{length, length-replicate}
+use Rattle.plain.specs.Numbers.{Asks, Passed, actionOf}
+use Rattle.plain.proofs.Settled.{plain-settled, size-range, empty}
+use borrow.Author.Needs.{needs}
+use Rattle.plain.proofs.plainly.Statement.{statement}
+use Rattle.plain.proofs.plainly.Tie as tie
+
+returns : tie.Need-returns
+returns c =
+    let c₁ = c .before .before .before in
+    let p = c₁ .before .before .before .args in
+    subst (λ q. Asks (p .regions) (p .cells .now) q) (c .before .q .given .1) (c₁ .ask .ensures) (actionOf (p .what))
+
+-- the store passed
+abbrev Sound : Type 0
+Sound = tie.After-q2
+
+abbrev start : Sound → tie.Start
+start c = c .before .before .before .before .before
+
+passed : (c : Sound) → Passed (start c .args .regions) (start c .args .cells .now) (c .q2 .given .0 .0)
+passed c =
+    let p = start c .args in
+    subst (λ q. Asks (p .regions) (p .cells .now) q) (c .q2 .given .1) (c .before .before .ask .ensures)
+
+act-requires : tie.Need-act-requires
+act-requires c κs =
+    let p = passed (c .before .before .before .before .before) in
+    let n = size-range _ (p .size) in (
+      record { small = n .1; sized = length-replicate {A = ℕ} 16384 0; unmarked = refl },
+      record { fits = omega (arith, n .1, empty 98319, length-replicate {A = ℕ} 98320 0) },
+    )
+
+settle-requires : tie.Need-settle-requires
+settle-requires c κs =
+    let t = c .before .before .before .before .before .act in
+    let c₁ = c .before .before .before .before .before .before .before .before .before .before .before in
+    let n = size-range (length (start c₁ .args .cells .now)) (passed c₁ .size) in
+    record { fits = omega (arith, t .ensures .count, t .kept .1 .0, n .1, empty 98319, length-replicate {A = ℕ} 98320 0) }
+
+returns-2 : tie.Need-returns-2
+returns-2 c =
+    let c₁ = c .before .before .before .before .before .before .before .before in
+    let p = passed (c₁ .before .before .before .before .before .before) in
+    c .before .before .settle .ensures ∙ plain-settled _ _ _ p _ (empty 98319) (c₁ .act .ensures)
+
+pub plainly-spec : {M : Type 1} → statement M
+plainly-spec =
+    tie.close
+    (tie.spec
+    (λ c κs. search needs)
+    (λ c. search needs)
+    (λ c. search needs)
+    (λ c. search needs)
+    act-requires
+    (λ c. search needs)
+    settle-requires
+    (λ c. search needs)
+    returns
+    (λ c. search needs)
+    returns-2)

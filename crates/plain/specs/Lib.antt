@@ -1,0 +1,2 @@
+-- What a plain action makes of the lent numbers and a table.
+pub mod Numbers

@@ -1,0 +1,110 @@
+// Demand 3: preserve, copy and erase as "plain actions outside any cycle". Each asks of the store what a run asks, 1 and then 20;
+// refused, it leaves every number as it was.
+ghost use mathlib.Core.Path.{_≡_};
+ghost use Prim.Native.Nat.{_+_, _*_};
+ghost use lib.ListN.{length};
+ghost use Rattle.paper.specs.Plain.{preserveH0};
+ghost use Rattle.paper.specs.Process.{J72, J74};
+ghost use Rattle.undo.specs.declared.Acted.the-variants.{Done};
+ghost use Rattle.undo.specs.Log.{Room};
+ghost use Rattle.undo.specs.Did.{Top, Did};
+ghost use Rattle.walk.specs.Walks.{Clean};
+ghost use Rattle.plain.specs.Numbers.{numbers, plainOn, Asks, settledAs, actionOf};
+use paper::RunAnswer;
+use sound::Regions;
+use undo::Acted;
+
+// Where the regions of a sound store end, or the answer.
+enum Asked {
+    Top(u16),
+    Not(RunAnswer),
+}
+
+fn ask(cells: &[u64], regions: Regions) -> Asked
+    ensures { λ r. ⌜ Asks regions (now (cells .entry)) r ⌝ }
+{
+    if !sound::size_fits(cells.len()) {
+        return Asked::Not(RunAnswer::BadSize);
+    }
+    if !sound::sound(cells, regions) {
+        return Asked::Not(RunAnswer::NotSound);
+    }
+    Asked::Top(regions.top() as u16)
+}
+
+// What was refused is undone.
+fn settle(cells: &mut [u64], log: &[u64], a: Acted) -> RunAnswer
+    requires { ⌜ Room (now log) 0 ⌝ }
+    ensures { λ r. ⌜ numbers r (now (cells .exit)) ≡ settledAs a (now (log .entry)) (now (cells .entry)) ⌝ }
+{
+    match a {
+        Acted::Done => RunAnswer::Finished,
+        Acted::Refused(e) => {
+            undo::rewind(cells, log);
+            RunAnswer::Refused(e)
+        }
+    }
+}
+
+// The three actions.
+enum Action {
+    Preserve,
+    Copy,
+    Erase,
+}
+
+fn act(
+    cells: &mut [u64],
+    log: &mut [u64],
+    order: &mut [u16; 16384],
+    marks: &mut [u16; 16384],
+    what: Action,
+    top: u16,
+) -> Acted
+    requires { ⌜ Clean (now cells) (now order) (now marks) × Room (now log) (3 * length (now cells) + 6) ⌝ }
+    ensures { λ r. ⌜ Did (Top top) (3 * length (now (cells .entry)) + 6) (actionOf what)
+        (now (cells .entry)) (now (log .entry)) Done (now (cells .exit)) (now (log .exit)) r tt ⌝ }
+{
+    match what {
+        Action::Preserve => acts::preserve(cells, log, Acted::Done, 1),
+        Action::Copy => structures::j74(cells, log, order, marks, Acted::Done, top),
+        Action::Erase => structures::j72(cells, log, order, marks, Acted::Done, top),
+    }
+}
+
+fn plainly(cells: &mut [u64], regions: Regions, what: Action) -> RunAnswer
+    ensures { λ r. ⌜ numbers r (now (cells .exit)) ≡ plainOn (actionOf what) regions (now (cells .entry)) ⌝ }
+{
+    let q = ask(cells, regions);
+    match q {
+        Asked::Not(a) => a,
+        Asked::Top(top) => {
+            let mut log = [0u64; 98320];
+            let mut order = [0u16; 16384];
+            let mut marks = [0u16; 16384];
+            let go = act(cells, &mut log, &mut order, &mut marks, what, top);
+            settle(cells, &log, go)
+        }
+    }
+}
+
+// H0 is preserved.
+pub fn preserve(cells: &mut [u64], regions: Regions) -> RunAnswer
+    ensures { λ r. ⌜ numbers r (now (cells .exit)) ≡ plainOn preserveH0 regions (now (cells .entry)) ⌝ }
+{
+    plainly(cells, regions, Action::Preserve)
+}
+
+// The structure that H0 names is copied, and H0 names the copy.
+pub fn copy(cells: &mut [u64], regions: Regions) -> RunAnswer
+    ensures { λ r. ⌜ numbers r (now (cells .exit)) ≡ plainOn J74 regions (now (cells .entry)) ⌝ }
+{
+    plainly(cells, regions, Action::Copy)
+}
+
+// The structure that H0 names is erased, and H0 is popped.
+pub fn erase(cells: &mut [u64], regions: Regions) -> RunAnswer
+    ensures { λ r. ⌜ numbers r (now (cells .exit)) ≡ plainOn J72 regions (now (cells .entry)) ⌝ }
+{
+    plainly(cells, regions, Action::Erase)
+}
