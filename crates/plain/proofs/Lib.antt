@@ -1,2 +1,3 @@
 -- Laws of the plain actions.
 pub mod Settled
+pub mod GivesBack

@@ -1,0 +1,174 @@
+-- Demand 3, carried to the calls: of every outcome that the contracts of preserve, copy and erase allow. Each statement can be read
+-- without its proof.
+use Prim.Native.Nat.{ℕ, zero, suc, _+_, _<_, _≤_}
+use mathlib.Core.Path.{_≡_, refl, sym, ap, _∙_}
+use mathlib.Core.Bool.{Bool, true, false}
+use mathlib.Core.List.{List, [], _∷_, reverse}
+use native.Mathlib.Omega.{arith}
+use lib.ListN.{length, getD}
+use lib.IntN.{pos, negsuc}
+use lib.Dec.{leb}
+use borrow.Author.Tests.{leb-true}
+use Rattle.paper.specs.declared.RunAnswer.{RunAnswer}
+use Rattle.paper.specs.declared.RunAnswer.the-variants.{Finished, BadSize, BudgetSpent, NotSound, Refused as Stopped}
+use Rattle.paper.specs.Cell.{Cell, free, word, integer, process, State, sizeFits}
+use Rattle.paper.specs.declared.Refusal.{Refusal}
+use Rattle.paper.specs.Act.{Act, Res, done, refused}
+use Rattle.paper.specs.Walk.{walkBack}
+use Rattle.paper.specs.Process.{J72, J74}
+use Rattle.paper.specs.Plain.{acted, afterAct, plainly, preserveH0}
+use Rattle.paper.proofs.SoundStore.{Frame, at, CellOk, Sound, and-true, never}
+use Rattle.paper.proofs.SoundTest.{sound-from, sound-passes, size-passes}
+use Rattle.paper.proofs.ActLaws.{s-preserve}
+use Rattle.paper.proofs.ProcessLaws.{Kept, s-J74}
+use Rattle.paper.proofs.Handed.{when-done}
+use Rattle.paper.proofs.Demand1.{Runnable}
+use Rattle.paper.proofs.Demand3.{CanCopy, plainly-back, inH0, Erased, J72-frees}
+use Rattle.cells.specs.Pack.{CellFits, AllFormed, packOf, packed}
+use Rattle.cells.specs.Bridge.{unpacked}
+use Rattle.cells.proofs.Laws.{unpack-pack}
+use Rattle.cells.proofs.Store.{unpacked-length, packed-unpacked}
+use Rattle.sound.specs.declared.Regions.{Regions}
+use Rattle.sound.specs.Table.{regionsOf}
+use Rattle.sound.specs.Store.{stateWith, storeSound}
+use Rattle.sound.proofs.SoundLaws.{passed-formed, passed-sound}
+use Rattle.plain.specs.Numbers.{Numbers, numbers, inNumbers, plainOn}
+use Rattle.plain.proofs.Settled.{plain-is}
+
+-- what may stand in a cell of a sound store fits the fields of its number
+cell-fits : (F : Frame) (c : ℕ) (x : Cell) → CellOk F c x → CellFits x
+cell-fits F c (free l) k = omega (arith, k .link<, F .small)
+cell-fits F c (word w) k = record {
+    p = omega (arith, k .p≤7); q = omega (arith, k .q≤4);
+    symb = omega (arith, k .symb<, F .small); link = omega (arith, k .link<, F .small) }
+cell-fits F c (integer (pos n)) k = omega (arith, k .range)
+cell-fits F c (integer (negsuc n)) k = omega (arith, k .range)
+cell-fits F c process k = tt
+
+abbrev EachFits : List Cell → Type 0
+EachFits cs = (c : ℕ) → c < length cs → CellFits (getD cs c (free 0))
+
+later : (x : Cell) (cs : List Cell) → EachFits (x ∷ cs) → EachFits cs
+later x cs h c l = h (suc c) (omega (arith, l))
+
+unpacked-packed : (cs : List Cell) → EachFits cs → unpacked (packed cs) ≡ cs
+unpacked-packed [] h = refl
+unpacked-packed (x ∷ cs) h = rw (unpack-pack x (h 0 (omega arith)), unpacked-packed cs (later x cs h))
+
+packed-formed : (cs : List Cell) → EachFits cs → AllFormed (packed cs)
+packed-formed [] h = tt
+packed-formed (x ∷ cs) h = (ap packOf (unpack-pack x (h 0 (omega arith))), packed-formed cs (later x cs h))
+
+acts-on : (m : Act (Unit {0})) (t : State) → Runnable t → plainly m t ≡ afterAct t (m t)
+unfolding plainly
+acts-on m t r = rw (r .size, r .test, plainly)
+
+module _ (r : Regions) where
+  -- a sound store with this table, outside any cycle: no lines, and no room for any
+  record Plain (t : State) : Type 0 where
+    frame : Frame
+    isSound : Sound frame t
+    table : frame .rs ≡ regionsOf r
+    nothing : frame .out ≡ 0
+
+  plain-fits : {t : State} → Plain t → EachFits (t .cells)
+  plain-fits {t} p c l = cell-fits (p .frame) c (at t c) (p .isSound .each c (omega (arith, l, p .isSound .size)))
+
+  -- it is the store of its numbers
+  numbered : (t : State) → Plain t → stateWith r (packed (t .cells)) [] 0 ≡ t
+  numbered t p = go (t .lines) refl (t .room) refl
+    where
+      counted : length (t .lines) + t .room ≡ 0
+      counted = p .isSound .lines ∙ p .nothing
+      go : (xs : List ℕ) → t .lines ≡ xs → (n : ℕ) → t .room ≡ n → stateWith r (packed (t .cells)) [] 0 ≡ t
+      go [] e zero f =
+          rw (unpacked-packed (t .cells) (plain-fits p), sym (p .table), sym (p .isSound .regions), sym e, sym f)
+      go [] e (suc n) f = absurd (omega (arith, counted, f))
+      go (x ∷ xs) e n f = absurd (omega (arith, counted, ap length e))
+
+  -- an action, accepted or refused, leaves such a store
+  plain-after : {m : Act (Unit {0})} → ((F : Frame) → Kept F m) → (t : State) → Plain t → Plain (plainly m t .state)
+  unfolding afterAct
+  plain-after {m} k t p =
+      rw (acts-on m t (record { size = size-passes (p .frame) t (p .isSound); test = sound-passes (p .frame) t (p .isSound) })) (go (m t) refl)
+    where
+      go : (x : Res State Refusal (Unit {0})) → m t ≡ x → Plain (afterAct t x .state)
+      go (refused f) e = p
+      go (done u v) e = record {
+          frame = p .frame; table = p .table; nothing = p .nothing;
+          isSound = when-done (k (p .frame)) t v u (record { sound = p .isSound; used = tt }) e .0 .sound }
+
+  module _ (tabled : r .n ≤ 23) where
+    -- what a call comes to on the numbers of such a store
+    on-numbers : (m : Act (Unit {0})) (t : State) → Plain t → plainOn m r (packed (t .cells)) ≡ inNumbers (plainly m t)
+    on-numbers m t p =
+        plain-is m r (packed (t .cells)) tabled (packed-formed (t .cells) (plain-fits p)) ∙ ap (λ u. inNumbers (plainly m u)) (numbered t p)
+
+finished : RunAnswer → Bool
+finished a = elim a [ Finished ↦ true | BadSize ↦ false | BudgetSpent ↦ false | NotSound ↦ false | Stopped q ↦ false ]
+
+-- Three calls, each on what the one before left, gave every number back.
+pub record GaveBack (s : List ℕ) (preserved copied erased : RunAnswer) (s₃ : List ℕ) : Type 0 where
+  pub preserve : preserved ≡ Finished
+  pub copy : copied ≡ Finished
+  pub erase : erased ≡ Finished
+  pub back : s₃ ≡ s
+
+module _ (r : Regions) (s : List ℕ) (size : sizeFits (length s) ≡ true) (passes : storeSound r s ≡ true) where
+  -- the store of the numbers
+  abbrev pub given : State
+  given = stateWith r s [] 0
+
+  tabled : r .n ≤ 23
+  unfolding storeSound
+  tabled = leb-true (r .n) 23 (and-true (leb (r .n) 23) _ (and-true _ _ passes .0) .0)
+
+  runnable : Runnable given
+  runnable = record { size = ap sizeFits (unpacked-length s) ∙ size; test = passed-sound r s [] 0 passes }
+
+  plain : Plain r given
+  plain = let t = sound-from given (runnable .size) (runnable .test) in
+      record { frame = t .frame; isSound = t .isSound; table = t .rs-is; nothing = t .out-is }
+
+  begins : (m : Act (Unit {0})) → plainOn m r s ≡ inNumbers (plainly m given)
+  begins m = plain-is m r s tabled (passed-formed r s passes)
+
+  -- whatever the three calls answer and leave: on a sound store whose H0 names a well-formed structure, with one more free cell than
+  -- it has cells, they finish and every cell is as it was
+  pub calls-give-back : CanCopy given → {a₁ a₂ a₃ : RunAnswer} {s₁ s₂ s₃ : List ℕ}
+      → numbers a₁ s₁ ≡ plainOn preserveH0 r s
+      → numbers a₂ s₂ ≡ plainOn J74 r s₁
+      → numbers a₃ s₃ ≡ plainOn J72 r s₂
+      → GaveBack s a₁ a₂ a₃ s₃
+  calls-give-back can {s₁ = s₁} {s₂} e₁ e₂ e₃ =
+      let g = plainly-back given runnable can in
+      let t₁ = plainly preserveH0 given .state in
+      let t₂ = plainly J74 t₁ .state in
+      let p₁ = plain-after r {m = preserveH0} (λ F. s-preserve 1) given plain in
+      let p₂ = plain-after r {m = J74} (λ F. s-J74) t₁ p₁ in
+      let f₁ = e₁ ∙ begins preserveH0 in
+      let f₂ = e₂ ∙ ap (λ x. plainOn J74 r x) (ap (λ (n : Numbers). n .cells) f₁) ∙ on-numbers r tabled J74 t₁ p₁ in
+      let f₃ = e₃ ∙ ap (λ x. plainOn J72 r x) (ap (λ (n : Numbers). n .cells) f₂) ∙ on-numbers r tabled J72 t₂ p₂ ∙ ap inNumbers (g .erased) in
+      record {
+        preserve = ap (λ (n : Numbers). n .answer) f₁ ∙ g .preserved;
+        copy = ap (λ (n : Numbers). n .answer) f₂ ∙ g .copied;
+        erase = ap (λ (n : Numbers). n .answer) f₃;
+        back = ap (λ (n : Numbers). n .cells) f₃ ∙ packed-unpacked s (passed-formed r s passes);
+      }
+
+  -- whenever the call erase finishes, it frees the structure's cells, once each, and one popped from H0, and changes nothing else but
+  -- H0 and H2: `Erased` of paper/proofs/Demand3
+  pub call-frees : {s₁ : List ℕ} → numbers Finished s₁ ≡ plainOn J72 r s
+      → (t : State) × (back : List ℕ) × (s₁ ≡ packed (t .cells)) × (walkBack (inH0 given .symb) given ≡ done back given)
+        × Erased given t (inH0 given .link ∷ reverse back)
+  unfolding afterAct finished
+  call-frees {s₁} e = go (J72 given) refl
+    where
+      so : (x : Res State Refusal (Unit {0})) → J72 given ≡ x → numbers Finished s₁ ≡ inNumbers (afterAct given x)
+      so x f = e ∙ begins J72 ∙ ap inNumbers (acts-on J72 given runnable ∙ ap (λ y. afterAct given y) f)
+      go : (x : Res State Refusal (Unit {0})) → J72 given ≡ x
+          → (t : State) × (back : List ℕ) × (s₁ ≡ packed (t .cells)) × (walkBack (inH0 given .symb) given ≡ done back given) × Erased given t (inH0 given .link ∷ reverse back)
+      go (done u t) f =
+          let (back, w, x) = J72-frees given t runnable f in
+          (t, back, ap (λ (n : Numbers). n .cells) (so (done u t) f), w, x)
+      go (refused q) f = never (finished (Stopped q)) (sym (ap (λ (n : Numbers). finished (n .answer)) (so (refused q) f))) refl
