@@ -39,8 +39,11 @@ use Rattle.plain.proofs.Settled.{plain-is}
 cell-fits : (F : Frame) (c : ℕ) (x : Cell) → CellOk F c x → CellFits x
 cell-fits F c (free l) k = omega (arith, k .link<, F .small)
 cell-fits F c (word w) k = record {
-    p = omega (arith, k .p≤7); q = omega (arith, k .q≤4);
-    symb = omega (arith, k .symb<, F .small); link = omega (arith, k .link<, F .small) }
+  p = omega (arith, k .p≤7);
+  q = omega (arith, k .q≤4);
+  symb = omega (arith, k .symb<, F .small);
+  link = omega (arith, k .link<, F .small);
+}
 cell-fits F c (integer (pos n)) k = omega (arith, k .range)
 cell-fits F c (integer (negsuc n)) k = omega (arith, k .range)
 cell-fits F c process k = tt
@@ -80,6 +83,7 @@ module _ (r : Regions) where
     where
       counted : length (t .lines) + t .room ≡ 0
       counted = p .isSound .lines ∙ p .nothing
+
       go : (xs : List ℕ) → t .lines ≡ xs → (n : ℕ) → t .room ≡ n → stateWith r (packed (t .cells)) [] 0 ≡ t
       go [] e zero f =
           rw (unpacked-packed (t .cells) (plain-fits p), sym (p .table), sym (p .isSound .regions), sym e, sym f)
@@ -95,8 +99,11 @@ module _ (r : Regions) where
       go : (x : Res State Refusal (Unit {0})) → m t ≡ x → Plain (afterAct t x .state)
       go (refused f) e = p
       go (done u v) e = record {
-          frame = p .frame; table = p .table; nothing = p .nothing;
-          isSound = when-done (k (p .frame)) t v u (record { sound = p .isSound; used = tt }) e .0 .sound }
+        frame = p .frame;
+        table = p .table;
+        nothing = p .nothing;
+        isSound = when-done (k (p .frame)) t v u (record { sound = p .isSound; used = tt }) e .0 .sound;
+      }
 
   module _ (tabled : r .n ≤ 23) where
     -- what a call comes to on the numbers of such a store
@@ -160,12 +167,13 @@ module _ (r : Regions) (s : List ℕ) (size : sizeFits (length s) ≡ true) (pas
   -- H0 and H2: `Erased` of paper/proofs/Demand3
   pub call-frees : {s₁ : List ℕ} → numbers Finished s₁ ≡ plainOn J72 r s
       → (t : State) × (back : List ℕ) × (s₁ ≡ packed (t .cells)) × (walkBack (inH0 given .symb) given ≡ done back given)
-        × Erased given t (inH0 given .link ∷ reverse back)
+      × Erased given t (inH0 given .link ∷ reverse back)
   unfolding afterAct finished
   call-frees {s₁} e = go (J72 given) refl
     where
       so : (x : Res State Refusal (Unit {0})) → J72 given ≡ x → numbers Finished s₁ ≡ inNumbers (afterAct given x)
       so x f = e ∙ begins J72 ∙ ap inNumbers (acts-on J72 given runnable ∙ ap (λ y. afterAct given y) f)
+
       go : (x : Res State Refusal (Unit {0})) → J72 given ≡ x
           → (t : State) × (back : List ℕ) × (s₁ ≡ packed (t .cells)) × (walkBack (inH0 given .symb) given ≡ done back given) × Erased given t (inH0 given .link ∷ reverse back)
       go (done u t) f =
