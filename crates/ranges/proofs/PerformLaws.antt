@@ -13,7 +13,7 @@ use Rattle.cells.specs.Bridge.{Rest, stateOf}
 use Rattle.undo.specs.declared.Acted.{Acted}
 use Rattle.undo.specs.Did.{Judged, Did}
 use Rattle.undo.proofs.Lines.{alike, most}
-use Rattle.perform.proofs.Listed.{entryFor, noneFor, NoneOf, entry-does, none-does}
+use Rattle.ranges.proofs.Listed.{entryFor, noneFor, NoneOf, entry-does, none-does}
 
 module _ {K : Rest → Type 0} {s l s′ l′ : List ℕ} {a r : Acted} where
   -- the entry e has all numbers from `low` to `high`

@@ -1,14 +1,14 @@
 use Rattle.undo.proofs.Lines.{any, give}
-use Rattle.perform.proofs.PerformLaws.{numbered, unlisted}
-use Rattle.perform.proofs.Listed.{entryFor, noneFor}
+use Rattle.ranges.proofs.PerformLaws.{numbered, unlisted}
+use Rattle.ranges.proofs.Listed.{entryFor, noneFor}
 use Rattle.paper.specs.Walk.{member}
 use Rattle.paper.specs.Process.{listed}
 use mathlib.Core.List.{[], _∷_}
 use mathlib.Core.Path.{refl}
 use native.Mathlib.Omega.{arith}
 use borrow.Author.Needs.{needs}
-use Rattle.perform.proofs.first_ten.Statement.{statement}
-use Rattle.perform.proofs.first_ten.Tie as tie
+use Rattle.ranges.proofs.first_ten.Statement.{statement}
+use Rattle.ranges.proofs.first_ten.Tie as tie
 
 returns : tie.Need-returns
 unfolding entryFor listed

@@ -1,12 +1,12 @@
 use Rattle.undo.proofs.Lines.{any}
-use Rattle.perform.proofs.PerformLaws.{entered}
-use Rattle.perform.proofs.Listed.{entryFor}
+use Rattle.ranges.proofs.PerformLaws.{entered}
+use Rattle.ranges.proofs.Listed.{entryFor}
 use Rattle.paper.specs.Process.{listed, ten, J2n, J3n, J4n, J5n}
 use mathlib.Core.Path.{refl}
 use native.Mathlib.Omega.{arith}
 use borrow.Author.Needs.{needs}
-use Rattle.perform.proofs.on_w.Statement.{statement}
-use Rattle.perform.proofs.on_w.Tie as tie
+use Rattle.ranges.proofs.on_w.Statement.{statement}
+use Rattle.ranges.proofs.on_w.Tie as tie
 
 returns : tie.Need-returns
 unfolding entryFor listed

@@ -1,15 +1,15 @@
-use Rattle.machine.proofs.StepLaws.{clean-on}
+use Rattle.perform.proofs.StepLaws.{clean-on}
 use Rattle.undo.proofs.Lines.{any}
-use Rattle.perform.proofs.PerformLaws.{numbered, unlisted}
-use Rattle.perform.proofs.Listed.{entryFor, noneFor}
+use Rattle.ranges.proofs.PerformLaws.{numbered, unlisted}
+use Rattle.ranges.proofs.Listed.{entryFor, noneFor}
 use Rattle.paper.specs.Walk.{member}
 use Rattle.paper.specs.Process.{listed}
 use mathlib.Core.List.{[], _∷_}
 use mathlib.Core.Path.{refl}
 use native.Mathlib.Omega.{arith}
 use borrow.Author.Needs.{needs}
-use Rattle.machine.proofs.on_lists.Statement.{statement}
-use Rattle.machine.proofs.on_lists.Tie as tie
+use Rattle.perform.proofs.on_lists.Statement.{statement}
+use Rattle.perform.proofs.on_lists.Tie as tie
 
 returns : tie.Need-returns
 unfolding entryFor listed

@@ -12,11 +12,11 @@ use Rattle.cells.specs.Bridge.{Rest}
 use Rattle.undo.specs.declared.Acted.{Acted}
 use Rattle.undo.specs.Did.{Judged, Sees, Reads, Top, Did}
 use Rattle.undo.proofs.Lines.{under}
-use Rattle.perform.proofs.Listed.{entryFor, entry-does}
+use Rattle.ranges.proofs.Listed.{entryFor, entry-does}
 use Rattle.walk.specs.Walks.{Clean}
 use Rattle.lines.specs.Ran.{Known}
 use Rattle.lines.proofs.RanLaws.{no-line, ran-most, ran-alike, ran-test, ran-sees, ran-reads, then-did, bind-did, known-top, kept-none, kept-then}
-use Rattle.machine.specs.Steps.{Steps}
+use Rattle.perform.specs.Steps.{Steps}
 
 -- as many cells as before, and the same scratch
 pub clean-on : {s s′ order marks : List ℕ} → length s′ ≡ length s → Clean s order marks → Clean s′ order marks

@@ -1,14 +1,14 @@
-use Rattle.machine.proofs.StepLaws.{clean-on, quietly, steps-most, steps-numbered}
-use Rattle.perform.proofs.PerformLaws.{unlisted}
-use Rattle.perform.proofs.Listed.{entryFor, noneFor}
+use Rattle.perform.proofs.StepLaws.{clean-on, quietly, steps-most, steps-numbered}
+use Rattle.ranges.proofs.PerformLaws.{unlisted}
+use Rattle.ranges.proofs.Listed.{entryFor, noneFor}
 use Rattle.paper.specs.Walk.{member}
 use Rattle.paper.specs.Process.{listed}
 use mathlib.Core.List.{[]}
 use mathlib.Core.Path.{refl}
 use native.Mathlib.Omega.{arith}
 use borrow.Author.Needs.{needs}
-use Rattle.machine.proofs.perform.Statement.{statement}
-use Rattle.machine.proofs.perform.Tie as tie
+use Rattle.perform.proofs.perform.Statement.{statement}
+use Rattle.perform.proofs.perform.Tie as tie
 
 returns : tie.Need-returns
 unfolding entryFor listed
