@@ -99,15 +99,16 @@ pub fn execute(
     if cells::is_process(t.x) {
         let j = process_number(y.num);
         let p = perform::perform(cells, log, order, marks, line, letters, counts, n, go, top, room, j);
+        let done = p.go;
         return Operated {
-            go: p.go,
+            go: done,
             moved: false,
             len: p.len,
         };
     }
-    let f = control::descend(cells, log, go, y);
+    let down = control::descend(cells, log, go, y);
     Operated {
-        go: f,
+        go: down,
         moved: true,
         len: 0,
     }
