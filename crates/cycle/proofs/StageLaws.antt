@@ -13,7 +13,7 @@ use Rattle.paper.specs.Cycle.{after, branch, operate}
 use Rattle.cells.specs.Bridge.{Rest}
 use Rattle.undo.specs.declared.Acted.{Acted}
 use Rattle.undo.specs.Did.{Top, Did}
-use Rattle.undo.proofs.Lines.{then, most, alike, if-yes, give}
+use Rattle.undo.proofs.Lines.{then, most, alike, if-yes, if-no, give}
 use Rattle.lines.specs.Ran.{Known}
 use Rattle.perform.specs.Steps.{Steps}
 use Rattle.perform.proofs.StepLaws.{steps-most, steps-alike, steps-then}
@@ -34,7 +34,7 @@ pub of-p : {K : Rest → Type 0} {j : ℕ} (p k : ℕ) (x : Symbol) {s l s′ l�
     → Did K j (operate p x) s l a s′ l′ r false
 of-p p k x h d = alike (ap (λ i. operate i x) (sym h)) d
 
--- a test that holds
+-- a test that holds, and one that does not
 pub steps-yes : {A : Type 0} {K : Rest → Type 0} {k : ℕ} {m : Act A} {s l s′ l′ order marks line : List ℕ} {a r : Acted} {len : ℕ} {v : A} (n : Act A)
     {b : Bool} → b ≡ true → Steps K k m s l a s′ l′ order marks line r len v → Steps K k (ifThen b m n) s l a s′ l′ order marks line r len v
 steps-yes n p d = steps-alike (if-yes n p) d
@@ -48,3 +48,7 @@ unfolding operate choose
 p-branches p x h =
     let no : (k : ℕ) → k ≤ 6 → eqb p k ≡ false = λ k g. ne-eqb p k (λ e. omega (arith, h, g, e)) in
     rw (no 0 (omega arith), no 1 (omega arith), no 2 (omega arith), no 3 (omega arith), no 4 (omega arith), no 5 (omega arith), no 6 (omega arith))
+
+pub steps-no : {A : Type 0} {K : Rest → Type 0} {k : ℕ} {n : Act A} {s l s′ l′ order marks line : List ℕ} {a r : Acted} {len : ℕ} {v : A} (m : Act A)
+    {b : Bool} → b ≡ false → Steps K k n s l a s′ l′ order marks line r len v → Steps K k (ifThen b m n) s l a s′ l′ order marks line r len v
+steps-no m p d = steps-alike (if-no m p) d

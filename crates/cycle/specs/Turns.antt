@@ -29,7 +29,7 @@ pub record Ready (s log order marks line : List ℕ) : Type 0 where
 -- accepted: the definition's state, and the bytes past the lines as they were; refused: cells and bytes as they were
 abbrev pub Came : List Region → List ℕ → List ℕ → ℕ → List ℕ → List ℕ → Cycled → Type 0
 Came rs s out at s′ out′ (Progress n) =
-    (cycle (stateAt rs s out at) ≡ done tt (stateAt rs s′ out′ n)) × (n ≤ length out) × (drop n out′ ≡ drop n out)
+    (cycle (stateAt rs s out at) ≡ done tt (stateAt rs s′ out′ n)) × (at ≤ n) × (n ≤ length out) × (drop n out′ ≡ drop n out)
 Came rs s out at s′ out′ (Refused e) = (cycle (stateAt rs s out at) ≡ refused e) × (s′ ≡ s) × (out′ ≡ out)
 
 pub record Turns (rs : List Region) (s out : List ℕ) (at : ℕ) (s′ out′ log order marks line : List ℕ) (r : Cycled) : Type 0 where

@@ -22,7 +22,7 @@ pub struct Ran {
 fn finished(cells: &[u64]) -> bool
     ensures { λ r. ⌜ r ≡ isFinishedIn (now (cells .entry)) ⌝ }
 {
-    let h = acts::own(cells, 2);
+    let h = cells::word_in(cells::peek(cells, 2));
     (h / cells::SYMB % 65536 == 0) & (h % 65536 == 0)
 }
 
@@ -77,23 +77,29 @@ fn cycles(
     }
 }
 
+// An answer before any cycle.
+fn untouched(answer: RunAnswer) -> Ran
+    ensures { λ r. ⌜ r ≡ record { answer = answer; cycles = 0; len = 0 } ⌝ }
+{
+    Ran {
+        answer: answer,
+        cycles: 0,
+        len: 0,
+    }
+}
+
 // Cells and a table as a load leaves them, or any others; lines go to `out`, whose length is the room.
 pub fn run(cells: &mut [u64], regions: Regions, budget: u32, out: &mut [u8]) -> Ran
     ensures { λ r. ⌜ numbers r (now (cells .exit)) (now (out .exit)) ≡ runOn regions budget (now (cells .entry)) (now (out .entry)) ⌝ }
 {
     if !sound::size_fits(cells.len()) {
-        return Ran {
-            answer: RunAnswer::BadSize,
-            cycles: 0,
-            len: 0,
-        };
+        return untouched(RunAnswer::BadSize);
     }
-    if (1000000 < budget) || !sound::sound(cells, regions) {
-        return Ran {
-            answer: RunAnswer::NotSound,
-            cycles: 0,
-            len: 0,
-        };
+    if budget > 1000000 {
+        return untouched(RunAnswer::NotSound);
+    }
+    if !sound::sound(cells, regions) {
+        return untouched(RunAnswer::NotSound);
     }
     let top = regions.top() as u16;
     let letters = regions.letters;

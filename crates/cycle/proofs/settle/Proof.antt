@@ -1,52 +1,38 @@
+use Prim.Native.Nat.{_+_}
+use mathlib.Core.Path.{subst}
+use lib.ListN.{take}
+use Rattle.cycle.specs.Turns.{Fits}
+use Rattle.cycle.proofs.TurnLaws.{settled-done, settled-undone}
 use borrow.Author.Needs.{needs}
 use Rattle.cycle.proofs.settle.Statement.{statement}
 use Rattle.cycle.proofs.settle.Tie as tie
-use Rattle.cycle.proofs.settle.Reads as reads
-use Rattle.cycle.proofs.settle.Lts as lts
-use Rattle.lines.proofs.write_line.Reads as write-line-reads
-use Rattle.undo.proofs.rewind.Reads as rewind-reads
 
--- src/lib.rt:298:41
-enum-told : tie.Need-enum-told
-enum-told c = search needs
-
--- src/lib.rt:298:17
 write-line-requires : tie.Need-write-line-requires
-write-line-requires c κs = ?
+write-line-requires c κs =
+    let a = c .before .before .before .before .before .before .args in
+    let p = c .before .before .before .before .before .before .pre in
+    (subst (λ g. Fits g (a .at + a .len) (a .out .now)) (c .before .enum-told .given .1) (p .3), p .1, p .2)
 
--- src/lib.rt:301:24
-enum-known-go : tie.Need-enum-known-go
-enum-known-go c = search needs
-
--- src/lib.rt:302:13
-rewind-requires : tie.Need-rewind-requires
-rewind-requires c κs = search needs
-
--- src/lib.rt:291:1
-same-length : tie.Need-same-length
-same-length c = search needs
-
--- src/lib.rt:291:1
 returns : tie.Need-returns
-returns c = ?
+returns c =
+    let w = c .before .before .write-line .ensures in
+    let a = c .before .before .before .before .before .before .before .before .before .args in
+    settled-done (a .log .now) (a .cells .now) (c .before .before .before .before .enum-told .given .1) (w .0) (w .1)
 
--- src/lib.rt:291:1
-same-length-2 : tie.Need-same-length-2
-same-length-2 c = search needs
-
--- src/lib.rt:291:1
 returns-2 : tie.Need-returns-2
-returns-2 c = ?
+returns-2 c =
+    let a = c .before .before .before .before .before .before .before .before .before .before .args in
+    settled-undone (a .at + a .len) (a .at) (a .log .now) (take (a .len) (a .line .now)) (a .cells .now) (a .out .now) (c .before .before .before .before .before .go .given .1) (c .before .before .rewind .ensures)
 
 pub settle-spec : {M : Type 1} → statement M
 settle-spec =
     tie.close
     (tie.spec
-    enum-told
+    (λ c. search needs)
     write-line-requires
-    enum-known-go
-    rewind-requires
-    same-length
+    (λ c. search needs)
+    (λ c κs. search needs)
+    (λ c. search needs)
     returns
-    same-length-2
+    (λ c. search needs)
     returns-2)
