@@ -2,8 +2,8 @@ use Rattle.deck.proofs.FreshLaws.{fresh-region, fresh-free, packs-as, e
 use Rattle.paper.specs.Cell.{free}
 use mathlib.Core.Path.{ap, _∙_, sym}
 use borrow.Author.Needs.{needs}
-use Rattle.deck.proofs.region_or_free.Statement.{statement}
-use Rattle.deck.proofs.region_or_free.Tie as tie
+use Rattle.deck.proofs.fresh.region_or_free.Statement.{statement}
+use Rattle.deck.proofs.fresh.region_or_free.Tie as tie
 
 returns : tie.Need-returns
 returns c = packs-as (fresh-region _ _ _ (search needs) (c .if1 .taken)) empty-packs

@@ -2,8 +2,8 @@ use Rattle.deck.proofs.FreshLaws.{fresh-zero, fresh-H2, fresh-HW, fresh
 use Rattle.paper.specs.Cell.{word, emptyWord}
 use mathlib.Core.Path.{ap, _∙_, sym}
 use borrow.Author.Needs.{needs}
-use Rattle.deck.proofs.fresh_cell.Statement.{statement}
-use Rattle.deck.proofs.fresh_cell.Tie as tie
+use Rattle.deck.proofs.fresh.fresh_cell.Statement.{statement}
+use Rattle.deck.proofs.fresh.fresh_cell.Tie as tie
 
 returns : tie.Need-returns
 returns c = packs-as (fresh-zero _ _ _ (c .before .match .keys1)) (c .of-fields .ensures)
