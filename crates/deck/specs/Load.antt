@@ -56,6 +56,7 @@ oneRecord size x = loadRecord size x >> ret (isStart x)
 unfoldable pub oneParsed : ℕ → Option PaperRecord → Load Bool
 oneParsed size o = given o >>= oneRecord size
 
+-- a record that is refused
 abbrev pub stopped : Regions → Notes → Fault → Turn
 stopped t k f = record { go = Refused f; last = false; notes = k; regions = t }
 
