@@ -1,7 +1,7 @@
 use borrow.Author.Tests.{lt-ltb, le-ltb}
 use borrow.Author.Needs.{needs}
-use Rattle.deck.proofs.next_free.Statement.{statement}
-use Rattle.deck.proofs.next_free.Tie as tie
+use Rattle.deck.proofs.fresh.next_free.Statement.{statement}
+use Rattle.deck.proofs.fresh.next_free.Tie as tie
 
 returns : tie.Need-returns
 returns c = simp (lt-ltb _ _ (c .if1 .taken))

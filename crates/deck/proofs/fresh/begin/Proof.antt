@@ -1,7 +1,7 @@
 use Rattle.deck.proofs.FreshLaws.{begun}
 use borrow.Author.Needs.{needs}
-use Rattle.deck.proofs.begin.Statement.{statement}
-use Rattle.deck.proofs.begin.Tie as tie
+use Rattle.deck.proofs.fresh.begin.Statement.{statement}
+use Rattle.deck.proofs.fresh.begin.Tie as tie
 
 returns : tie.Need-returns
 returns c =

@@ -4,10 +4,10 @@ use Rattle.paper.specs.Deck.{freshCell}
 use lib.ListN.{length, getD}
 use mathlib.Core.Path.{_≡_}
 use native.Mathlib.Omega.{arith}
-use Prim.Native.Nat.{ℕ, _≤_, _<_, _-_, _+_}
+use Prim.Native.Nat.{ℕ, _≤_, _<_, _-_}
 use borrow.Author.Needs.{needs}
-use Rattle.deck.proofs.lay.Statement.{statement}
-use Rattle.deck.proofs.lay.Tie as tie
+use Rattle.deck.proofs.fresh.lay.Statement.{statement}
+use Rattle.deck.proofs.fresh.lay.Tie as tie
 
 abbrev Inv-loop : tie.InvT-loop
 Inv-loop cells₀ end n c₀ cells c =
