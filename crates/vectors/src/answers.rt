@@ -1,4 +1,6 @@
 // What a line of answer is made of.
+ghost use Prim.Native.Nat.{_<_};
+use crate::input::byte;
 use paper::LoadAnswer;
 use sound::Regions;
 
@@ -90,6 +92,82 @@ pub fn loaded(a: LoadAnswer, cells: &[u64]) {
         return;
     }
     text(b" | touched\n");
+}
+
+// What stands in the output room before a run.
+const UNWRITTEN: u8 = 238;
+
+pub fn clear(out: &mut [u8]) {
+    let mut i = 0;
+    while i < out.len() {
+        out[i] = UNWRITTEN;
+        i += 1;
+    }
+}
+
+// "output bytes past the lines keep what they held"
+fn kept(out: &[u8], len: usize) -> bool {
+    let mut i = len;
+    while i < out.len() {
+        if out[i] != UNWRITTEN {
+            return false;
+        }
+        i += 1;
+    }
+    true
+}
+
+fn glyph(x: u8) -> u8
+    requires { ⌜ x < 16 ⌝ }
+{
+    if x < 10 {
+        return 48 + x;
+    }
+    87 + x
+}
+
+// The first or the second digit of a byte.
+fn digit(b: u8, first: bool) -> u8 {
+    if first {
+        return glyph(b / 16);
+    }
+    glyph(b % 16)
+}
+
+// Two digits for each byte.
+fn hex(out: &[u8], digits: &mut [u8]) {
+    let mut k = 0;
+    while k < digits.len() {
+        let i = k / 2;
+        digits[k] = digit(byte(out, i), k % 2 == 0);
+        k += 1;
+    }
+}
+
+fn write_hex(out: &[u8], digits: &mut [u8]) {
+    hex(out, digits);
+    text(digits);
+}
+
+// The first n digits.
+fn in_hex(out: &[u8], digits: &mut [u8], n: usize) {
+    if n <= digits.len() {
+        write_hex(out, &mut digits[..n]);
+    }
+}
+
+// The lines of a run, in hex.
+pub fn lines(out: &[u8], len: usize) {
+    let mut digits = [0u8; 131072];
+    if len == 0 {
+        text(b"-");
+    }
+    if len < 65536 {
+        in_hex(out, &mut digits, len * 2);
+    }
+    if (out.len() < len) | !kept(out, len) {
+        text(b" past the lines");
+    }
 }
 
 fn wide(c: u16) -> u64 {

@@ -1,4 +1,4 @@
-// The kinds of case.
+// The five kinds of case.
 use crate::answers;
 use crate::input;
 use paper::RunAnswer;
@@ -16,6 +16,42 @@ fn load(cells: &mut [u64], deck: &[u8]) {
     answers::text(b" ");
     answers::regions(r);
     answers::loaded(a, cells);
+}
+
+// The answer of a run, its cycles, lines and cells.
+fn run(cells: &mut [u64], regions: Regions, budget: u32, out: &mut [u8]) {
+    answers::clear(out);
+    let r = machine::run(cells, regions, budget, out);
+    let a = r.answer;
+    answers::number(a.number() as u64);
+    answers::text(b" ");
+    answers::number(r.cycles as u64);
+    answers::text(b" ");
+    answers::lines(out, r.len);
+    answers::end(answers::digest(cells));
+}
+
+// 'R': a load and, if that gives 0, a run.
+fn load_and_run(cells: &mut [u64], deck: &[u8], budget: u32, out: &mut [u8]) {
+    answers::spoil(cells);
+    let l = deck::load(deck, cells);
+    let a = l.answer;
+    let r = l.regions;
+    answers::text(b"R ");
+    answers::load(a);
+    answers::text(b" ");
+    if a.number() == 0 {
+        run(cells, r, budget, out);
+        return;
+    }
+    answers::text(b"- - -");
+    answers::loaded(a, cells);
+}
+
+// 'S': a run from any store.
+fn run_store(cells: &mut [u64], regions: Regions, budget: u32, out: &mut [u8]) {
+    answers::text(b"S ");
+    run(cells, regions, budget, out);
 }
 
 // 'W': the walk of a symbol.
@@ -87,6 +123,47 @@ fn read_load(cells: &mut [u64], bytes: &mut [u8]) -> bool {
     false
 }
 
+// N:2 BUDGET:4 ROOM:2 LENGTH:2 DECK
+fn read_load_and_run(cells: &mut [u64], bytes: &mut [u8], out: &mut [u8]) -> bool {
+    let begun = input::take(bytes, 10);
+    let n = input::pair(bytes, 0);
+    let budget = input::four(bytes, 2);
+    let room = input::pair(bytes, 6);
+    let len = input::pair(bytes, 8);
+    if !(begun & input::take(bytes, len)) {
+        return false;
+    }
+    if n <= cells.len() {
+        if len <= bytes.len() {
+            if room <= out.len() {
+                load_and_run(&mut cells[..n], &bytes[..len], budget, &mut out[..room]);
+                return true;
+            }
+        }
+    }
+    false
+}
+
+// N:2 BUDGET:4 ROOM:2 REGIONS CELLS
+fn read_run(cells: &mut [u64], bytes: &mut [u8], out: &mut [u8]) -> bool {
+    let begun = input::take(bytes, 8);
+    let n = input::pair(bytes, 0);
+    let budget = input::four(bytes, 2);
+    let room = input::pair(bytes, 6);
+    let t = input::regions(bytes);
+    let r = t.regions;
+    if !(begun & t.whole & input::cells(bytes, cells, n as u16)) {
+        return false;
+    }
+    if n <= cells.len() {
+        if room <= out.len() {
+            run_store(&mut cells[..n], r, budget, &mut out[..room]);
+            return true;
+        }
+    }
+    false
+}
+
 // TAG:1 NUMBER:2 N:2 REGIONS CELLS
 fn read_walk(cells: &mut [u64], bytes: &mut [u8]) -> bool {
     let begun = input::take(bytes, 5);
@@ -123,9 +200,11 @@ fn read_demand3(cells: &mut [u64], bytes: &mut [u8]) -> bool {
     false
 }
 
-fn read(kind: u8, cells: &mut [u64], bytes: &mut [u8]) -> bool {
+fn read(kind: u8, cells: &mut [u64], bytes: &mut [u8], out: &mut [u8]) -> bool {
     match kind {
         b'L' => read_load(cells, bytes),
+        b'R' => read_load_and_run(cells, bytes, out),
+        b'S' => read_run(cells, bytes, out),
         b'W' => read_walk(cells, bytes),
         b'D' => read_demand3(cells, bytes),
         _ => false,
@@ -133,11 +212,11 @@ fn read(kind: u8, cells: &mut [u64], bytes: &mut [u8]) -> bool {
 }
 
 // Whether there was a case.
-pub fn next(cells: &mut [u64], bytes: &mut [u8]) -> bool {
+pub fn next(cells: &mut [u64], bytes: &mut [u8], out: &mut [u8]) -> bool {
     if !input::take(bytes, 1) {
         return false;
     }
-    if read(input::byte(bytes, 0), cells, bytes) {
+    if read(input::byte(bytes, 0), cells, bytes, out) {
         return true;
     }
     answers::text(b"no whole case\n");

@@ -38,6 +38,11 @@ pub fn pair(b: &[u8], at: u16) -> usize
     two(b, at as usize)
 }
 
+pub fn four(b: &[u8], at: u16) -> u32 {
+    let i = at as usize;
+    (two(b, i) * 65536 + two(b, i + 2)) as u32
+}
+
 // The eight bytes of cell c.
 fn cell(b: &[u8], c: u16) -> u64 {
     let at = c as usize * 8;

@@ -4,9 +4,9 @@ mod cases;
 mod input;
 
 // A proved loop has to end, and nothing says that the input does: so the turns are counted down, from more than any input has cases.
-fn all(cells: &mut [u64], bytes: &mut [u8]) {
+fn all(cells: &mut [u64], bytes: &mut [u8], out: &mut [u8]) {
     let mut turns = u64::MAX;
-    while 0 < turns && cases::next(cells, bytes) {
+    while 0 < turns && cases::next(cells, bytes, out) {
         turns -= 1;
     }
 }
@@ -14,5 +14,6 @@ fn all(cells: &mut [u64], bytes: &mut [u8]) {
 fn main() {
     let mut cells = [0u64; 65536];
     let mut bytes = [0u8; 524288];
-    all(&mut cells, &mut bytes);
+    let mut out = [0u8; 65536];
+    all(&mut cells, &mut bytes, &mut out);
 }
