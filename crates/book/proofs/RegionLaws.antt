@@ -2,20 +2,18 @@
 use Prim.Native.Nat.{ℕ, _+_, _<_, _≤_}
 use mathlib.Core.Bool.{Bool, true, false, cond}
 use mathlib.Core.List.{List, [], _∷_}
-use mathlib.Core.Path.{_≡_, refl, ap, sym, _∙_}
+use mathlib.Core.Path.{_≡_, sym, _∙_}
 use native.Mathlib.Omega.{arith}
 use borrow.Author.Tests.{lt-ltb, le-ltb, eq-eqb, ne-eqb}
 use lib.Dec.{eqb, ltb}
-use lib.ListN.{length, getD, drop}
+use lib.ListN.{length, getD}
 use Rattle.paper.specs.Cell.{Region, endOfRegions}
 use Rattle.paper.specs.Step.{choose}
 use Rattle.paper.specs.Deck.{inDeck, within, cellOf}
 use Rattle.sound.specs.declared.Regions.{Regions}
-use Rattle.sound.specs.Table.{regionAt, regionsOf}
+use Rattle.sound.specs.Table.{regionsOf}
 use Rattle.sound.proofs.TableLaws.{rest-more, rest-none}
-
-abbrev pub rest : Regions → ℕ → List Region
-rest r i = drop i (regionsOf r)
+use Rattle.sound.proofs.RegionLaws.{rest, end-more}
 
 past-start : (rs : List Region) (at : ℕ) → at ≤ endOfRegions rs at
 unfolding endOfRegions
@@ -28,14 +26,11 @@ yes-there t x y e = rw e
 not-there : (t : Bool) (x y : ℕ) → t ≡ false → _≡_ {A = ℕ} (elim t as (λ _. ℕ) [ true ↦ x | false ↦ y ]) y
 not-there t x y e = rw e
 
+pub more-fits : (r : Regions) (i : ℕ) → i < length (regionsOf r) → (from k : ℕ) → k ≡ getD (r .counts) i 0 → endOfRegions (rest r i) from ≤ 16384
+    → from + k ≤ 16384
+more-fits r i here from k counts h = omega (arith, end-more r i here from k counts, past-start (rest r (i + 1)) (from + k))
+
 module _ (r : Regions) (i : ℕ) (here : i < length (regionsOf r)) (from k b n : ℕ) (counts : k ≡ getD (r .counts) i 0) where
-  pub end-more : endOfRegions (rest r (i + 1)) (from + k) ≡ endOfRegions (rest r i) from
-  unfolding endOfRegions
-  end-more = rw (rest-more r i here, counts)
-
-  pub more-fits : endOfRegions (rest r i) from ≤ 16384 → from + k ≤ 16384
-  more-fits h = omega (arith, end-more, past-start (rest r (i + 1)) (from + k))
-
   hit : getD (r .letters) i 0 ≡ b → inDeck (rest r i) from b n ≡ cond (ltb n k) (from + n) 0
   unfolding inDeck
   hit e = rw (rest-more r i here, counts) (yes-there (eqb (getD (r .letters) i 0) b) _ _ (eq-eqb (getD (r .letters) i 0) b e))

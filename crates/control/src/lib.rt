@@ -9,12 +9,6 @@ use paper::Refusal;
 use paper::Symbol;
 use undo::Acted;
 
-// What an operation came to, and whether control has moved: else it goes on to the LINK.
-pub struct Moved {
-    pub go: Acted,
-    pub moved: bool,
-}
-
 // Any kind of cell but a process: H1 is preserved, and x put in it.
 pub fn descend(cells: &mut [u64], log: &mut [u64], a: Acted, x: Symbol) -> Acted
     requires { ⌜ Room (now log) 4 ⌝ }

@@ -1,61 +1,20 @@
 -- The cells before any word, and loops that fill a slice from the front.
-use Prim.Native.Nat.{ℕ, zero, suc, _+_, _<_, _≤_}
+use Prim.Native.Nat.{ℕ, suc, _+_, _<_}
 use mathlib.Core.Bool.{Bool, false}
 use mathlib.Core.List.{List, [], _∷_}
-use mathlib.Core.Logic.{_≢_}
 use mathlib.Core.Path.{_≡_, refl, ap, sym, _∙_, subst}
 use native.Mathlib.Omega.{arith}
 use native.Mathlib.Decide.{ℕ-discrete}
-use native.Mathlib.Numerals.{add-one}
-use borrow.Author.Tests.{lt-ltb, le-ltb, eq-eqb, ne-eqb}
 use lib.ListN.{length, getD, set, replicate, getD-replicate, length-replicate}
 use lib.Seq.{getD-set-same, getD-set-other, ext-getD}
-use Rattle.paper.specs.Step.{choose}
-use Rattle.paper.specs.Cell.{Region, endOfRegions, Cell, free, word, process, zeros, emptyWord}
-use Rattle.paper.specs.Deck.{nextFree, freshCell, cellsFrom, fresh, freshBook}
+use Rattle.paper.specs.Cell.{Region, endOfRegions, Cell, word, emptyWord}
+use Rattle.paper.specs.Deck.{freshCell, cellsFrom, fresh, freshBook}
 use Rattle.cells.specs.Layout.{unpackOf}
 use Rattle.cells.specs.Pack.{Packs, AllFormed}
 use Rattle.cells.specs.Bridge.{unpacked}
 use Rattle.book.specs.declared.Notes.{Notes}
 use Rattle.book.specs.Kept.{held, bookOf, noNotes}
 use Rattle.book.proofs.StepLaws.{no-locals}
-
--- by number
-module _ (size end c : ℕ) where
-  pub fresh-zero : c ≡ 0 → freshCell size end c ≡ word zeros
-  unfolding freshCell choose
-  fresh-zero p = rw (eq-eqb c 0 p, choose)
-
-  pub fresh-H2 : c ≡ 3 → freshCell size end c ≡ word (emptyWord (nextFree size end))
-  unfolding freshCell choose
-  fresh-H2 p = rw (ne-eqb c 0 (λ e. omega arith), eq-eqb c 3 p, choose)
-
-  pub fresh-HW : c ≢ 0 → c ≢ 3 → c < 21 → freshCell size end c ≡ word (emptyWord 0)
-  unfolding freshCell choose
-  fresh-HW p q r = rw (ne-eqb c 0 p, ne-eqb c 3 q, lt-ltb c 21 r, choose)
-
-  pub fresh-J : 21 ≤ c → c < 221 → freshCell size end c ≡ process
-  unfolding freshCell choose
-  fresh-J p q = rw (ne-eqb c 0 (λ e. omega arith), ne-eqb c 3 (λ e. omega arith), le-ltb c 21 p, lt-ltb c 221 q, choose)
-
-  pub fresh-region : 221 ≤ c → c < end → freshCell size end c ≡ word (emptyWord 0)
-  unfolding freshCell choose
-  fresh-region p q =
-      rw
-      (ne-eqb c 0 (λ e. omega arith), ne-eqb c 3 (λ e. omega arith), le-ltb c 21 (omega arith), le-ltb c 221 p, lt-ltb c end q, choose)
-
-  pub fresh-free : 221 ≤ c → end ≤ c → freshCell size end c ≡ free (nextFree size (c + 1))
-  unfolding freshCell choose
-  fresh-free p q =
-      rw (
-        ne-eqb c 0 (λ e. omega arith),
-        ne-eqb c 3 (λ e. omega arith),
-        le-ltb c 21 (omega arith),
-        le-ltb c 221 p,
-        le-ltb c end q,
-        choose,
-        add-one,
-      )
 
 pub packs-as : {r : ℕ} {x y : Cell} → x ≡ y → Packs r y → Packs r x
 packs-as {r} e p = subst (λ (z : Cell). Packs r z) (sym e) p

@@ -1,56 +1,60 @@
 -- The record loop: what holds at its head, each way out of it, and one turn.
-use Prim.Native.Nat.{ℕ, suc, _+_, _-_, _<_, _≤_}
-use mathlib.Core.Bool.{Bool, true, false}
+use Prim.Native.Nat.{ℕ, zero, suc, _+_, _-_, _<_, _≤_}
+use mathlib.Core.Bool.{Bool, true, false, _&&_, not}
 use mathlib.Core.List.{List, []}
-use mathlib.Core.Option.{Option, none, some}
+use mathlib.Core.Option.{some}
 use mathlib.Core.Path.{_≡_, refl, ap, sym, _∙_, subst}
 use native.Mathlib.Omega.{arith}
+use native.Mathlib.Decide.{ℕ-discrete}
+use borrow.Author.Tests.{ltb-true, ltb-false, eq-eqb, ne-eqb}
+use lib.Dec.{ltb, eqb}
 use lib.ListN.{length, take, drop, set, length-drop}
 use lib.Seq.{take-all}
 use Rattle.paper.specs.declared.Fault.{Fault}
-use Rattle.paper.specs.declared.Fault.the-variants.{PastEnd, UnknownKind, BadField, NotEnded}
+use Rattle.paper.specs.declared.Fault.the-variants.{BadField}
 use Rattle.paper.specs.declared.Field.{Field}
 use Rattle.paper.specs.declared.Field.the-variants.{Regional}
 use Rattle.paper.specs.Step.{Res, done, refused}
 use Rattle.paper.specs.Record.{byteAt, sizeOf, fieldAt, recordAt}
-use Rattle.paper.specs.Deck.{Book, Ended, LoadOutcome, complete, broken, ending, records, freshBook, loadOne}
-use Rattle.paper.proofs.RecordLaws.{OptionOk, is-none, is-some, record-ok}
+use Rattle.paper.specs.Deck.{Book, ending, closing, records, freshBook, loadOne}
+use Rattle.paper.proofs.RecordLaws.{OptionOk, is-some, record-ok}
 use Rattle.cells.specs.Pack.{AllFormed}
 use Rattle.sound.specs.declared.Regions.{Regions}
 use Rattle.sound.specs.Table.{regionsOf, noRegions}
 use Rattle.sound.proofs.TableLaws.{none-held}
 use Rattle.records.specs.declared.Record.the-variants.{Region, Routine, Datum, Number, Start}
 use Rattle.records.specs.declared.Read.{Read}
-use Rattle.records.specs.declared.Read.the-variants.{Symbol}
+use Rattle.records.specs.declared.Read.the-variants.{Symbol, Nothing}
 use Rattle.records.specs.declared.Parsed.{Parsed}
-use Rattle.records.specs.declared.Parsed.the-variants.{Is, Nothing}
-use Rattle.records.specs.Symbols.{readOf, parsedOf, symbolsIn, placeOf, Written}
-use Rattle.records.proofs.Laws.{bad-symbol}
+use Rattle.records.specs.declared.Parsed.the-variants.{Is, Nothing as NoRecord}
+use Rattle.records.specs.Symbols.{readOf, parsedOf, symbolsAt, placeOf, Written}
+use Rattle.records.proofs.Laws.{bad-symbol, has-symbol}
 use Rattle.book.specs.declared.Judged.{Judged}
 use Rattle.book.specs.declared.Judged.the-variants.{Fine, Refused}
 use Rattle.book.specs.declared.Notes.{Notes}
-use Rattle.book.specs.Kept.{Held, held, bookOf}
+use Rattle.book.specs.Kept.{held, bookOf}
 use Rattle.book.specs.Did.{Did}
-use Rattle.deck.specs.declared.Ended.{Ended as CodeEnded}
-use Rattle.deck.specs.Load.{oneParsed, outcomeOf, tableOf, Made, Sized, AllLettered, Ends}
+use Rattle.deck.specs.declared.Turn.{Turn}
+use Rattle.deck.specs.Load.{outcomeOf, tableOf, Made, Turned, AllLettered, Ends, after, halted, ifComplete}
 use Rattle.deck.proofs.FreshLaws.{set-below}
 use Rattle.deck.proofs.TableLaws.{made-none}
-use Rattle.deck.proofs.ReadLaws.{Reached, at-start, ran-out, broke, last-one, next-one, closed, not-closed, unknown, cut-off, whole}
+use Rattle.deck.proofs.ReadLaws.{Reached, at-start, ran-out, broke, last-one, next-one, closed, not-closed, whole, was-whole}
 use Rattle.deck.proofs.ReadLaws.{not-written, is-done, is-refused}
 
--- at the head of the loop, of n cells; no answer is known but the one of a deck that ends here
-pub record Stands (deck : List ℕ) (n : ℕ) (s : List ℕ) (m : List Bool) (r : Regions) (k : Notes) (a : Judged) (at : ℕ) : Type 0 where
+-- at the head of the loop, of n cells: no refusal yet; `last`: the start has come, and reading ends here
+pub record Stands (deck : List ℕ) (n : ℕ) (s : List ℕ) (m : List Bool) (r : Regions) (k : Notes) (a : Judged) (last : Bool) (at : ℕ) : Type 0 where
   pub made : Made r
   pub cells : length s ≡ n
   pub marks : length m ≡ n
   pub formed : AllFormed s
-  pub so-far : a ≡ Refused NotEnded
+  pub so-far : a ≡ Fine
   pub within : at ≤ length deck
-  pub reached : Reached n deck at (bookOf (held (regionsOf r) k s m))
+  pub reached : last ≡ false → Reached n deck at (bookOf (held (regionsOf r) k s m))
+  pub over : last ≡ true → records n (suc (length deck)) 0 deck (freshBook n []) ≡ closing at (drop at deck) (bookOf (held (regionsOf r) k s m))
 
 pub stands-first : (deck : List ℕ) (n : ℕ) {s : List ℕ} {m : List Bool} {r : Regions} {k : Notes} → r ≡ noRegions → length s ≡ n
     → length m ≡ length s → bookOf (held (regionsOf r) k s m) ≡ freshBook n (regionsOf r) → AllFormed s
-    → Stands deck (length s) s m r k (Refused NotEnded) 0
+    → Stands deck (length s) s m r k Fine false 0
 stands-first deck n {s} {m} {r} {k} e ls lm b f =
     record {
       made = subst Made (sym e) made-none;
@@ -59,19 +63,35 @@ stands-first deck n {s} {m} {r} {k} e ls lm b f =
       formed = f;
       so-far = refl;
       within = omega arith;
-      reached = at-start (length s) deck _ (b ∙ (λ i. freshBook (sym ls i) (empty i)));
+      reached = λ _. at-start (length s) deck _ (b ∙ (λ i. freshBook (sym ls i) (empty i)));
+      over = λ e. let z : _≡_ {A = ℕ} 0 1 = cc in absurd (omega arith);
     }
   where
     empty : regionsOf r ≡ []
     empty = ap regionsOf e ∙ none-held
 
-pub ends : (deck s₀ : List ℕ) {s : List ℕ} {n : ℕ} {j : Judged} {o : ℕ} {r : Regions} → n ≡ length s₀
-    → ending n (records n (suc (length deck)) 0 deck (freshBook n [])) ≡ outcomeOf n j o r s → AllFormed s → r ≡ tableOf (regionsOf r)
+-- behind the loop: what the records come to, by the answer a
+pub record Leaves (deck : List ℕ) (n : ℕ) (s : List ℕ) (m : List Bool) (r : Regions) (a : Judged) (last : Bool) (at : ℕ) : Type 0 where
+  pub is : ending n (records n (suc (length deck)) 0 deck (freshBook n [])) ≡ outcomeOf n (ifComplete a (last && eqb at (length deck))) at r s
+  pub cells : length s ≡ n
+  pub marks : length m ≡ n
+  pub formed : AllFormed s
+
+-- the same in other words
+pub leaves-as : {deck : List ℕ} {n : ℕ} {s s′ : List ℕ} {m m′ : List Bool} {r : Regions} {a a′ : Judged} {last : Bool} {at at′ : ℕ} → s′ ≡ s → m′ ≡ m
+    → a′ ≡ a → at′ ≡ at → Leaves deck n s m r a last at → Leaves deck n s′ m′ r a′ last at′
+leaves-as {deck} {n} {s} {s′} {m} {m′} {r} {a} {a′} {last} {at} {at′} p q u v w =
+    subst (λ (x : List ℕ × List Bool × Judged × ℕ). Leaves deck n (x .0) (x .1) r (x .2) last (x .3))
+    (λ i. (sym p i, sym q i, sym u i, sym v i)) w
+
+pub ends : (deck s₀ : List ℕ) {s : List ℕ} {m : List Bool} {n : ℕ} {a : Judged} {last : Bool} {o : ℕ} {r : Regions} (j : Judged) → n ≡ length s₀
+    → Leaves deck n s m r a last o → j ≡ ifComplete a (last && eqb o (length deck)) → r ≡ tableOf (regionsOf r)
     → Ends deck s₀ s (record { go = j; at = o; regions = r })
-ends deck s₀ {s} {n} {j} {o} {r} e p f t =
+ends deck s₀ {s} {m} {n} {a} {last} {o} {r} j e w q t =
     record {
-      is = subst (λ (x : ℕ). ending x (records x (suc (length deck)) 0 deck (freshBook x [])) ≡ outcomeOf x j o r s) e p;
-      formed = f;
+      is = subst (λ (x : ℕ). ending x (records x (suc (length deck)) 0 deck (freshBook x [])) ≡ outcomeOf x j o r s) e
+          (w .is ∙ ap (λ (i : Judged). outcomeOf n i o r s) (sym q));
+      formed = w .formed;
       made = t;
     }
 
@@ -88,7 +108,7 @@ pub written-more : (kind : ℕ) (r : List ℕ) (fs : List Field) (i : ℕ) (f : 
 written-more kind r fs i f o h w e p =
     record { are = set-below (λ (j : ℕ) (x : Field). fieldAt r (placeOf kind j) ≡ some x) fs i f (Regional 0 0) h (w .are) (sym e ∙ ap readOf p) }
 
-pub written-all : (kind : ℕ) (r : List ℕ) (fs : List Field) (i : ℕ) → symbolsIn kind ≤ i → Written kind r fs i → Written kind r fs (symbolsIn kind)
+pub written-all : (kind : ℕ) (r : List ℕ) (fs : List Field) (i : ℕ) → symbolsAt r ≤ i → Written kind r fs i → Written kind r fs (symbolsAt r)
 written-all kind r fs i h w = record { are = λ j g. w .are j (omega arith) }
 
 -- a record that was parsed has a letter where it has a region
@@ -101,19 +121,48 @@ lettered x r e = go x (subst OptionOk (sym e) (record-ok r))
     go (Is (Datum name symb link)) h = tt
     go (Is (Number name v)) h = tt
     go (Is (Start b n)) h = tt
-    go Nothing h = tt
+    go NoRecord h = tt
 
-module _ {deck : List ℕ} {n : ℕ} {s : List ℕ} {m : List Bool} {r : Regions} {k : Notes} {a : Judged} {at : ℕ} (w : Stands deck n s m r k a at) where
-  abbrev Out : Judged → ℕ → Regions → List ℕ → Type 0
-  Out j o q t = ending n (records n (suc (length deck)) 0 deck (freshBook n [])) ≡ outcomeOf n j o q t
+-- the loop's test
+pub at-hand : (at n : ℕ) (last : Bool) → (ltb at n && not last) ≡ true → (at < n) × (last ≡ false)
+at-hand at n last h = go (ltb at n) last refl refl h
+  where
+    go : (t l : Bool) → ltb at n ≡ t → last ≡ l → (t && not l) ≡ true → (at < n) × (last ≡ false)
+    go true false e f g = (ltb-true _ _ e, f)
+    go true true e f g = let z : _≡_ {A = ℕ} 0 1 = cc in absurd (omega arith)
+    go false l e f g = let z : _≡_ {A = ℕ} 0 1 = cc in absurd (omega arith)
 
-  pub out-end : length deck ≤ at → Out a at r s
-  out-end h = ap (ending n) (ran-out n deck (w .reached) h) ∙ ap (λ (j : Judged). outcomeOf n j at r s) (sym (w .so-far))
+module _ {deck : List ℕ} {n : ℕ} {s : List ℕ} {m : List Bool} {r : Regions} {k : Notes} {a : Judged} {last : Bool} {at : ℕ}
+    (w : Stands deck n s m r k a last at) where
+  abbrev here : Book
+  here = bookOf (held (regionsOf r) k s m)
+
+  abbrev Out : Judged → List ℕ → Type 0
+  Out j t = ending n (records n (suc (length deck)) 0 deck (freshBook n [])) ≡ outcomeOf n j at r t
+
+  -- no record is left, or the start has come
+  pub leaves-end : (ltb at (length deck) && not last) ≡ false → Leaves deck n s m r a last at
+  leaves-end h = record { is = go last refl h; cells = w .cells; marks = w .marks; formed = w .formed }
+    where
+      shown : (whole : Bool) → (last && eqb at (length deck)) ≡ whole → Out (ifComplete Fine whole) s → Out (ifComplete a (last && eqb at (length deck))) s
+      shown whole e o = o ∙ (λ i. outcomeOf n (ifComplete (sym (w .so-far) i) (sym e i)) at r s)
+
+      go : (l : Bool) → last ≡ l → (ltb at (length deck) && not l) ≡ false → Out (ifComplete a (last && eqb at (length deck))) s
+      go true e h = closes (ℕ-discrete at (length deck))
+        where
+          closes : Dec (at ≡ length deck) → Out (ifComplete a (last && eqb at (length deck))) s
+          closes (yes p) = shown true (rw (e, eq-eqb at (length deck) p)) (ap (ending n) (w .over e ∙ closed n deck at here (omega arith)))
+          closes (no p) = shown false (rw (e, ne-eqb at (length deck) p)) (ap (ending n) (w .over e ∙ not-closed n deck at here (omega (arith, w .within))))
+      go false e h = shown false (rw e) (ap (ending n) (ran-out n deck (w .reached e) (ltb-false _ _ (first (ltb at (length deck)) h))))
+        where
+          first : (t : Bool) → (t && true) ≡ false → t ≡ false
+          first true f = f
+          first false f = refl
 
   -- a record is at hand: rec, the part of the deck from here on
-  module _ (h : at < length deck) (rec : List ℕ) (part : rec ≡ drop at deck) (size : ℕ) (e : size ≡ sizeOf (byteAt rec 0)) where
-    abbrev here : Book
-    here = bookOf (held (regionsOf r) k s m)
+  module _ (h : (ltb at (length deck) && not last) ≡ true) (rec : List ℕ) (part : rec ≡ drop at deck) where
+    abbrev left : (at < length deck) × (last ≡ false)
+    left = at-hand at (length deck) last h
 
     abbrev Comes : Res Book Fault Bool → Type 0
     Comes q = loadOne n (byteAt rec 0) rec here ≡ q
@@ -121,72 +170,96 @@ module _ {deck : List ℕ} {n : ℕ} {s : List ℕ} {m : List Bool} {r : Regions
     in-deck : (q : Res Book Fault Bool) → Comes q → loadOne n (byteAt (drop at deck) 0) (drop at deck) here ≡ q
     in-deck q p = subst (λ (y : List ℕ). loadOne n (byteAt y 0) y here ≡ q) part p
 
-    size-is : size ≡ sizeOf (byteAt (drop at deck) 0)
-    size-is = e ∙ ap (λ (y : List ℕ). sizeOf (byteAt y 0)) part
+    fails : (f : Fault) (t : List ℕ) → Comes (refused f) → Out (Refused f) t
+    fails f t p = ap (ending n) (broke n deck (w .reached (left .1)) (left .0) (in-deck (refused f) p))
 
-    rest-is : length rec ≡ length deck - at
-    rest-is = ap length part ∙ length-drop at deck
+    pub leaves-symbol : (i : ℕ) (x : Read) → i < symbolsAt rec → readOf x ≡ fieldAt rec (placeOf (byteAt rec 0) i) → x ≡ Nothing
+        → Leaves deck n s m r (Refused BadField) last at
+    leaves-symbol i x g e p =
+        let v = has-symbol rec i g in
+        record {
+          is = fails BadField s (whole n (byteAt rec 0) rec here (v .0) (v .1)
+              ∙ not-written n (recordAt rec) here (bad-symbol rec (byteAt rec 0) i refl (v .2) (sym e ∙ ap readOf p)));
+          cells = w .cells;
+          marks = w .marks;
+          formed = w .formed;
+        }
 
-    fails : (f : Fault) → Comes (refused f) → Out (Refused f) at r s
-    fails f p = ap (ending n) (broke n deck (w .reached) h (in-deck (refused f) p))
+    -- the record was loaded or refused, and reading goes on by o
+    module _ (size : ℕ) (e : size ≡ sizeOf (byteAt rec 0)) {s′ : List ℕ} {m′ : List Bool} {t : Turn}
+        (d : Turned (loadOne (length s) (byteAt rec 0) rec) r k s m s′ m′ t) (o : ℕ) (f : o ≡ after (t .go) size) where
+      abbrev there : Book
+      there = bookOf (held (regionsOf (t .regions)) (t .notes) s′ m′)
 
-    pub out-unknown : size ≡ 0 → Out (Refused UnknownKind) at r s
-    out-unknown z = fails UnknownKind (unknown n (byteAt rec 0) rec here (sym e ∙ z))
+      did : (j : Judged) → t .go ≡ j
+          → Did (loadOne n (byteAt rec 0) rec) (held (regionsOf r) k s m) Fine (held (regionsOf (t .regions)) (t .notes) s′ m′) j (t .last)
+      did j q =
+          subst
+          (λ (x : ℕ × Judged). Did (loadOne (x .0) (byteAt rec 0) rec) (held (regionsOf r) k s m) Fine
+          (held (regionsOf (t .regions)) (t .notes) s′ m′) (x .1) (t .last)) (λ i. (w .cells i, q i)) (d .did)
 
-    pub out-cut : (size ≡ 0 → ⊥) → length rec < size → Out (Refused PastEnd) at r s
-    out-cut z c = fails PastEnd (cut-off n (byteAt rec 0) rec here (λ p. z (e ∙ p)) (omega arith))
+      was : t .go ≡ Fine → (sizeOf (byteAt rec 0) ≡ 0 → ⊥) × (sizeOf (byteAt rec 0) ≤ length rec)
+      was q = was-whole n (byteAt rec 0) rec here (is-done (did Fine q))
 
-    module _ (z : size ≡ 0 → ⊥) (c : size ≤ length rec) where
-      is-whole : Comes (oneParsed n (recordAt rec) here)
-      is-whole = whole n (byteAt rec 0) rec here (λ p. z (e ∙ p)) (omega arith)
+      next : (j : Judged) → t .go ≡ j → o ≡ after j size
+      next j q = f ∙ ap (λ (x : Judged). after x size) q
 
-      pub out-symbol : (i : ℕ) → i < symbolsIn (byteAt rec 0) → fieldAt rec (placeOf (byteAt rec 0) i) ≡ none → Out (Refused BadField) at r s
-      out-symbol i g p = fails BadField (is-whole ∙ not-written n (recordAt rec) here (bad-symbol rec (byteAt rec 0) i refl g p))
+      pub reads-on : at + o ≤ length deck
+      reads-on = go (t .go) refl
+        where
+          go : (j : Judged) → t .go ≡ j → at + o ≤ length deck
+          go Fine q = omega (arith, was q .1, next Fine q, ap length part, length-drop at deck, left .0, e)
+          go (Refused x) q = omega (arith, next (Refused x) q, left .0)
 
-      -- the record was parsed, and loaded or refused
-      module _ (x : Parsed) (r′ : Regions) {k′ : Notes} {s′ : List ℕ} {m′ : List Bool} {j : Judged} {last : Bool} (p : parsedOf x ≡ recordAt rec)
-          (did : Did (oneParsed (length s) (parsedOf x)) (held (regionsOf r) k s m) Fine (held (regionsOf r′) k′ s′ m′) j last) where
-        abbrev there : Book
-        there = bookOf (held (regionsOf r′) k′ s′ m′)
+      pub leaves-refused : halted (t .go) ≡ true → length s′ ≡ length s → length m′ ≡ length m → Leaves deck n s′ m′ r (t .go) last (at + o)
+      leaves-refused h ls lm = go (t .go) refl h
+        where
+          go : (j : Judged) → t .go ≡ j → halted j ≡ true → Leaves deck n s′ m′ r (t .go) last (at + o)
+          go Fine q h = let z : _≡_ {A = ℕ} 0 1 = cc in absurd (omega arith)
+          go (Refused x) q h =
+              leaves-as refl refl q (omega (arith, next (Refused x) q))
+              (record {
+                is = fails x s′ (is-refused x (did (Refused x) q));
+                cells = ls ∙ w .cells;
+                marks = lm ∙ w .marks;
+                formed = d .did .formed (w .formed);
+              })
 
-        parsed : (y : Judged) → j ≡ y → (Did (oneParsed n (parsedOf x)) (held (regionsOf r) k s m) Fine (held (regionsOf r′) k′ s′ m′) y last)
-        parsed y q =
-            subst (λ (i : Judged). Did (oneParsed n (parsedOf x)) (held (regionsOf r) k s m) Fine (held (regionsOf r′) k′ s′ m′) i last) q
-            (subst (λ (i : ℕ). Did (oneParsed i (parsedOf x)) (held (regionsOf r) k s m) Fine (held (regionsOf r′) k′ s′ m′) j last) (w .cells) did)
+      module _ (q : halted (t .go) ≡ false) where
+        fine : t .go ≡ Fine
+        fine = go (t .go) q
+          where
+            go : (j : Judged) → halted j ≡ false → j ≡ Fine
+            go Fine h = refl
+            go (Refused x) h = let z : _≡_ {A = ℕ} 0 1 = cc in absurd (omega arith)
 
-        is-parsed : Comes (oneParsed n (parsedOf x) here)
-        is-parsed = is-whole ∙ ap (λ (o : Option _). oneParsed n o here) (sym p)
+        loaded : (l : Bool) → t .last ≡ l → loadOne n (byteAt (drop at deck) 0) (drop at deck) here ≡ done l there
+        loaded l p = in-deck (done l there) (is-done (did Fine fine) ∙ ap (λ (y : Bool). done y there) p)
 
-        pub out-refused : (f : Fault) → j ≡ Refused f → Out (Refused f) at r s
-        out-refused f q = fails f (is-parsed ∙ is-refused f (parsed (Refused f) q))
+        size-is : o ≡ sizeOf (byteAt (drop at deck) 0)
+        size-is = next Fine fine ∙ e ∙ ap (λ (y : List ℕ). sizeOf (byteAt y 0)) part
 
-        loaded : (l : Bool) → j ≡ Fine → last ≡ l → loadOne n (byteAt (drop at deck) 0) (drop at deck) here ≡ done l there
-        loaded l q t = in-deck (done l there) (is-parsed ∙ is-done (parsed Fine q) ∙ ap (λ (y : Bool). done y there) t)
+        some-read : o ≡ 0 → ⊥
+        some-read z = was fine .0 (sym (next Fine fine ∙ e) ∙ z)
 
-        pub out-loaded : j ≡ Fine → last ≡ true → at + size ≡ length deck → Out Fine (at + size) r′ s′
-        out-loaded q t g =
-            ap (ending n)
-            (last-one n deck (w .reached) h (loaded true q t)
-            ∙ closed n deck (at + sizeOf (byteAt (drop at deck) 0)) there (omega (arith, size-is, g)))
+        pub further : at < at + o
+        further = go o some-read
+          where
+            go : (x : ℕ) → (x ≡ 0 → ⊥) → at < at + x
+            go zero z = absurd (z refl)
+            go (suc x) z = omega arith
 
-        pub out-more : {a′ : Judged} → a′ ≡ a → j ≡ Fine → last ≡ true → (at + size ≡ length deck → ⊥) → Out a′ (at + size) r′ s′
-        out-more {a′} same q t g =
-            ap (ending n)
-            (last-one n deck (w .reached) h (loaded true q t)
-            ∙ not-closed n deck (at + sizeOf (byteAt (drop at deck) 0)) there (omega (arith, size-is, rest-is, g)))
-            ∙ ap (λ (y : Judged). outcomeOf n y (at + sizeOf (byteAt (drop at deck) 0)) r′ s′) (sym (same ∙ w .so-far))
-            ∙ ap (λ (o : ℕ). outcomeOf n a′ (at + o) r′ s′) (sym size-is)
-
-        pub goes-round : {a′ : Judged} → a′ ≡ a → j ≡ Fine → last ≡ false → Made r′ → length s′ ≡ length s → length m′ ≡ length m
-            → Stands deck n s′ m′ r′ k′ a′ (at + size)
-        goes-round same q t g ls lm =
+        pub goes-round : length s′ ≡ length s → length m′ ≡ length m → Stands deck n s′ m′ (t .regions) (t .notes) (t .go) (t .last) (at + o)
+        goes-round ls lm =
             record {
-              made = g;
+              made = d .made;
               cells = ls ∙ w .cells;
               marks = lm ∙ w .marks;
-              formed = did .formed (w .formed);
-              so-far = same ∙ w .so-far;
-              within = omega (arith, rest-is);
-              reached = subst (λ (o : ℕ). Reached n deck (at + o) there) (sym size-is)
-                  (next-one n deck (w .reached) h (loaded false q t) (λ y. z (size-is ∙ y)));
+              formed = d .did .formed (w .formed);
+              so-far = fine;
+              within = reads-on;
+              reached = λ l. subst (λ (x : ℕ). Reached n deck (at + x) there) (sym size-is)
+                  (next-one n deck (w .reached (left .1)) (left .0) (loaded false l) (λ y. some-read (size-is ∙ y)));
+              over = λ l. last-one n deck (w .reached (left .1)) (left .0) (loaded true l)
+                  ∙ ap (λ (x : ℕ). closing (at + x) (drop (at + x) deck) there) (sym size-is);
             }

@@ -2,7 +2,7 @@
 use Prim.Native.Nat.{ℕ, zero, suc, _≤_}
 use mathlib.Core.Bool.{Bool, true, false, cond, _&&_, not}
 use mathlib.Core.List.{List, [], _∷_}
-use mathlib.Core.Path.{_≡_, refl, ap, sym, _∙_, subst}
+use mathlib.Core.Path.{_≡_, refl, ap, sym, _∙_}
 use native.Mathlib.Omega.{arith}
 use borrow.Author.Tests.{leb-true, not-true, not-false}
 use lib.Dec.{leb}
@@ -10,9 +10,9 @@ use lib.ListN.{length, take, replicate, length-replicate}
 use lib.Seq.{length-take-le}
 use Rattle.paper.specs.declared.Fault.{Fault}
 use Rattle.paper.specs.declared.LoadAnswer.the-variants.{Loaded as AnswerLoaded, BadSize, Broken}
-use Rattle.paper.specs.Cell.{Cell, word, zeros, sizeFits}
+use Rattle.paper.specs.Cell.{word, zeros, sizeFits}
 use Rattle.paper.specs.Deck.{LoadOutcome, load, ending, records, freshBook}
-use Rattle.cells.specs.Pack.{packOf, packed}
+use Rattle.cells.specs.Pack.{packed}
 use Rattle.cells.specs.Bridge.{unpacked}
 use Rattle.cells.proofs.Store.{unpacked-length, packed-unpacked}
 use Rattle.sound.specs.declared.Regions.{Regions}

@@ -2,11 +2,11 @@
 use Prim.Native.Nat.{ℕ, zero, suc, _+_, _<_, _≤_}
 use mathlib.Core.Bool.{Bool, true, false}
 use mathlib.Core.List.{List, [], _∷_}
-use mathlib.Core.Option.{Option, none, some}
-use mathlib.Core.Path.{_≡_, refl, ap, sym, _∙_, subst}
+use mathlib.Core.Option.{Option, none}
+use mathlib.Core.Path.{_≡_, refl, ap, sym, _∙_}
 use native.Mathlib.Omega.{arith}
-use borrow.Author.Tests.{eq-eqb, ne-eqb, lt-ltb, le-ltb}
-use lib.Dec.{eqb, ltb}
+use borrow.Author.Tests.{eq-eqb, ne-eqb, lt-ltb, le-ltb, ltb-true, ltb-false}
+use lib.Dec.{ltb}
 use lib.ListN.{length, drop, length-drop, drop-of-length-le}
 use lib.Seq.{drop-drop}
 use Rattle.paper.specs.declared.Fault.{Fault}
@@ -14,11 +14,14 @@ use Rattle.paper.specs.declared.Fault.the-variants.{PastEnd, UnknownKind, BadFi
 use Rattle.paper.specs.Step.{Res, done, refused, _>>=_, _>>_, refuse, refuseIf, ret}
 use Rattle.paper.specs.Record.{byteAt, sizeOf, recordAt}
 use Rattle.paper.specs.Deck.{Book, Load, Ended, complete, broken, onRes, closing, records, freshBook, loadOne, given}
-use Rattle.book.specs.declared.Judged.{Judged}
+use Rattle.sound.specs.declared.Regions.{Regions}
+use Rattle.sound.specs.Table.{regionsOf}
 use Rattle.book.specs.declared.Judged.the-variants.{Fine, Refused}
-use Rattle.book.specs.Kept.{Held, bookOf}
+use Rattle.book.specs.declared.Notes.{Notes}
+use Rattle.book.specs.Kept.{Held, held, bookOf}
 use Rattle.book.specs.Did.{left, Did}
-use Rattle.deck.specs.Load.{oneRecord, oneParsed}
+use Rattle.deck.specs.declared.Turn.{Turn}
+use Rattle.deck.specs.Load.{oneRecord, oneParsed, Made, Turned, stopped}
 
 -- what was done from a fine start, by its answer
 module _ {A : Type 0} {M : Load A} {h h′ : Held} {v : A} where
@@ -29,6 +32,12 @@ module _ {A : Type 0} {M : Load A} {h h′ : Held} {v : A} where
   pub is-refused : (f : Fault) → Did M h Fine h′ (Refused f) v → M (bookOf h) ≡ refused f
   unfolding left _>>_ ret refuse
   is-refused f d = d .is
+
+-- a record that is refused
+pub stops : {M : Load Bool} {t : Regions} {k : Notes} {s : List ℕ} {m : List Bool} (f : Fault) → M (bookOf (held (regionsOf t) k s m)) ≡ refused f
+    → Made t → Turned M t k s m s m (stopped t k f)
+unfolding left _>>_ ret refuse
+stops f e h = record { did = record { is = e; formed = λ g. g }; made = h }
 
 -- one record: 3, 2, and the rest
 passes : {A : Type 0} (f : Fault) (M : Load A) (b : Book) (t : Bool) → t ≡ false → (refuseIf t f >> M) b ≡ M b
@@ -51,6 +60,23 @@ module _ (size kind : ℕ) (r : List ℕ) (b : Book) where
   pub whole : (sizeOf kind ≡ 0 → ⊥) → sizeOf kind ≤ length r → loadOne size kind r b ≡ oneParsed size (recordAt r) b
   unfolding loadOne oneParsed oneRecord
   whole n h = passes _ _ b _ (ne-eqb (sizeOf kind) 0 n) ∙ passes _ _ b _ (le-ltb (length r) (sizeOf kind) h)
+
+  pub was-whole : {l : Bool} {c : Book} → loadOne size kind r b ≡ done l c → (sizeOf kind ≡ 0 → ⊥) × (sizeOf kind ≤ length r)
+  was-whole {l} {c} e = (none, go (ltb (length r) (sizeOf kind)) refl)
+    where
+      none : sizeOf kind ≡ 0 → ⊥
+      none z = let y = unknown z in let x : _≡_ {A = ℕ} 0 1 = cc in omega arith
+
+      go : (t : Bool) → ltb (length r) (sizeOf kind) ≡ t → sizeOf kind ≤ length r
+      go true f = let y = cut-off none (ltb-true _ _ f) in let x : _≡_ {A = ℕ} 0 1 = cc in absurd (omega arith)
+      go false f = ltb-false _ _ f
+
+-- what is whole comes to what its record comes to
+pub turned-whole : (size kind : ℕ) (r : List ℕ) {t : Regions} {k : Notes} {s s′ : List ℕ} {m m′ : List Bool} {x : Turn} → (sizeOf kind ≡ 0 → ⊥)
+    → sizeOf kind ≤ length r → Turned (oneParsed size (recordAt r)) t k s m s′ m′ x → Turned (loadOne size kind r) t k s m s′ m′ x
+unfolding left _>>_ ret
+turned-whole size kind r n h d =
+    record { did = record { is = whole size kind r _ n h ∙ d .did .is; formed = d .did .formed }; made = d .made }
 
 pub not-written : (size : ℕ) (o : Option _) (b : Book) → o ≡ none → oneParsed size o b ≡ refused BadField
 unfolding oneParsed given _>>=_ refuse

@@ -7,7 +7,7 @@ use native.Mathlib.Omega.{arith}
 use lib.ListN.{set}
 use Rattle.paper.specs.Cell.{Region, Cell, word, mkWord, H, J}
 use Rattle.paper.specs.Step.{becomes}
-use Rattle.paper.specs.Deck.{Load, Book, withCells, freshBook}
+use Rattle.paper.specs.Deck.{Load, withCells, freshBook}
 use Rattle.cells.specs.Pack.{Packs, AllFormed}
 use Rattle.cells.specs.Bridge.{unpacked}
 use Rattle.cells.proofs.Store.{unpacked-set, formed-set}
@@ -54,3 +54,8 @@ turned l h d = record { did = giving (sym l) (then d give); made = h }
 pub turned-as : {A : Type 0} (M : A → Load Bool) {x y : A} {t : Regions} {k : Notes} {s s′ : List ℕ} {m m′ : List Bool} {r : Turn} → x ≡ y
     → Turned (M y) t k s m s′ m′ r → Turned (M x) t k s m s′ m′ r
 turned-as {A} M {t = t} {k = k} {s = s} {s′ = s′} {m = m} {m′ = m′} {r = r} p d = subst (λ (z : A). Turned (M z) t k s m s′ m′ r) (sym p) d
+
+-- a turn that is known
+pub turned-to : {M : Load Bool} {t : Regions} {k : Notes} {s s′ : List ℕ} {m m′ : List Bool} {x y : Turn} → x ≡ y → Turned M t k s m s′ m′ y
+    → Turned M t k s m s′ m′ x
+turned-to {M} {t} {k} {s} {s′} {m} {m′} p d = subst (λ (z : Turn). Turned M t k s m s′ m′ z) (sym p) d

@@ -2,25 +2,20 @@
 use Prim.Native.Nat.{ℕ, zero, suc, _+_, _<_, _≤_}
 use mathlib.Core.Bool.{Bool, true, false, cond, _||_, _&&_}
 use mathlib.Core.List.{List, [], _∷_, _++_}
-use mathlib.Core.Path.{_≡_, refl, ap, sym, _∙_, subst}
+use mathlib.Core.Path.{_≡_, refl, ap, sym, _∙_}
 use native.Mathlib.Omega.{arith}
 use native.Mathlib.Decide.{ℕ-discrete, decLt}
-use borrow.Author.Tests.{eq-eqb, ne-eqb, leb-true}
+use borrow.Author.Tests.{eq-eqb, leb-true}
 use lib.Dec.{eqb, leb}
 use lib.ListN.{length, length-append}
 use Rattle.paper.specs.Cell.{Region, endOfRegions}
 use Rattle.paper.specs.Sound.{isLetter}
 use Rattle.paper.specs.Deck.{letterTaken}
+use Rattle.paper.proofs.RegionLaws.{end-more}
 use Rattle.sound.specs.declared.Regions.{Regions}
 use Rattle.sound.specs.Table.{regionsOf, noRegions, withRegion}
 use Rattle.sound.proofs.TableLaws.{one-more, none-held, full}
-use Rattle.book.specs.Kept.{Laid}
 use Rattle.deck.specs.Load.{tableFrom, tableOf, unused, Made}
-
-end-more : (rs : List Region) (r : Region) (at : ℕ) → endOfRegions (rs ++ (r ∷ [])) at ≡ endOfRegions rs at + r .count
-unfolding endOfRegions
-end-more [] r at = refl
-end-more (x ∷ xs) r at = end-more xs r (at + x .count)
 
 swap : (a b c : Bool) → (a || (b || c)) ≡ (b || (a || c))
 swap true true c = refl

@@ -1,13 +1,14 @@
 -- What the contracts of the loader say: the outcome of a load in numbers, and what its steps rely on.
-use Prim.Native.Nat.{ℕ, zero, suc, _+_, _<_, _≤_}
-use mathlib.Core.Bool.{Bool, true, false, cond}
+use Prim.Native.Nat.{ℕ, zero, suc, _+_, _≤_}
+use mathlib.Core.Bool.{Bool, true, false, cond, _||_}
 use mathlib.Core.List.{List, [], _∷_}
 use mathlib.Core.Option.{Option}
 use mathlib.Core.Path.{_≡_}
 use lib.ListN.{length, replicate}
-use Rattle.paper.specs.declared.LoadAnswer.{LoadAnswer}
+use Rattle.paper.specs.declared.Fault.{Fault}
+use Rattle.paper.specs.declared.Fault.the-variants.{NotEnded}
 use Rattle.paper.specs.declared.LoadAnswer.the-variants.{Loaded as AnswerLoaded, Broken}
-use Rattle.paper.specs.Cell.{Region, Cell, word, zeros, sizeFits}
+use Rattle.paper.specs.Cell.{Region, word, zeros, sizeFits}
 use Rattle.paper.specs.Sound.{isLetter}
 use Rattle.paper.specs.Step.{_>>=_, _>>_, ret}
 use Rattle.paper.specs.Record.{Record as PaperRecord}
@@ -54,6 +55,22 @@ oneRecord size x = loadRecord size x >> ret (isStart x)
 
 unfoldable pub oneParsed : ℕ → Option PaperRecord → Load Bool
 oneParsed size o = given o >>= oneRecord size
+
+-- a record that is refused
+abbrev pub stopped : Regions → Notes → Fault → Turn
+stopped t k f = record { go = Refused f; last = false; notes = k; regions = t }
+
+-- a record is judged: the bytes to go on by, whether loading halts, and what the whole deck comes to
+abbrev pub after : Judged → ℕ → ℕ
+after Fine size = size
+after (Refused f) size = 0
+
+abbrev pub halted : Judged → Bool
+halted Fine = false
+halted (Refused f) = true
+
+abbrev pub ifComplete : Judged → Bool → Judged
+ifComplete a whole = cond (halted a || whole) a (Refused NotEnded)
 
 -- the answer of the record loop, where it stopped, its table and the numbers left, as the outcome
 abbrev pub outcomeOf : ℕ → Judged → ℕ → Regions → List ℕ → LoadOutcome

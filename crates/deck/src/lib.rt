@@ -1,23 +1,24 @@
 // The loader: document 01, "The deck".
 ghost use mathlib.Core.Path.{_≡_};
-ghost use mathlib.Core.Bool.{Bool, true, false};
-ghost use mathlib.Core.List.{List};
-ghost use Prim.Native.Nat.{ℕ, _≤_};
-ghost use lib.ListN.{length, replicate};
-ghost use Rattle.paper.specs.Cell.{Region};
+ghost use mathlib.Core.Bool.{true};
+ghost use lib.ListN.{length};
 ghost use Rattle.paper.specs.Sound.{isLetter};
-ghost use Rattle.paper.specs.Deck.{nextFree, freshCell, cellsFrom, freshBook, loadWord, loadInteger, loadRegion, loadStart};
+ghost use Rattle.paper.specs.Record.{byteAt};
+ghost use Rattle.paper.specs.Deck.{loadWord, loadInteger, loadRegion, loadStart, loadOne};
 ghost use Rattle.cells.specs.Layout.{valueOf};
-ghost use Rattle.cells.specs.Pack.{Packs, AllFormed};
-ghost use Rattle.cells.specs.Bridge.{unpacked};
-ghost use Rattle.sound.specs.Table.{regionsOf};
-ghost use Rattle.records.specs.Symbols.{recordOf, parsedOf};
+ghost use Rattle.records.specs.Symbols.{recordOf, parsedOf, symbolsAt, Written};
 ghost use Rattle.book.specs.declared.Judged.{Judged};
-ghost use Rattle.book.specs.Kept.{held, bookOf, Laid};
+ghost use Rattle.book.specs.Kept.{Laid};
 ghost use Rattle.book.specs.Did.{OnTable};
-ghost use Rattle.deck.specs.Load.{Loads, Made, Turned, Sized, Lettered, AllLettered, Ends, ordinary, oneRecord, oneParsed};
+ghost use Rattle.deck.specs.Load.{Loads, Made, Turned, Sized, Lettered, AllLettered, Ends};
+ghost use Rattle.deck.specs.Load.{ordinary, oneRecord, oneParsed, stopped, after, halted, ifComplete};
+
+mod fresh;
+
 use book::Judged;
 use book::Notes;
+use fresh::begin;
+use fresh::zero;
 use paper::Fault;
 use paper::Field;
 use paper::LoadAnswer;
@@ -124,73 +125,16 @@ fn load_start(cells: &mut [u64], regions: Regions, notes: Notes, b: u8, n: u16) 
     go
 }
 
-fn next_free(size: usize, c: usize) -> u16
-    requires { ⌜ size ≤ 16384 ⌝ }
-    ensures { λ r. ⌜ r ≡ nextFree size c ⌝ }
+// A record that is refused.
+fn stopped(regions: Regions, notes: Notes, f: Fault) -> Turn
+    ensures { λ r. ⌜ r ≡ stopped regions notes f ⌝ }
 {
-    if c < size {
-        return c as u16;
+    Turn {
+        go: Judged::Refused(f),
+        last: false,
+        notes: notes,
+        regions: regions,
     }
-    0
-}
-
-fn region_or_free(size: usize, end: usize, c: usize) -> u64
-    requires { ⌜ (size ≤ 16384) × (c ≤ 16384) × (221 ≤ c) ⌝ }
-    ensures { λ r. ⌜ Packs r (freshCell size end c) ⌝ }
-{
-    if c < end {
-        return cells::EMPTY;
-    }
-    cells::of_free(next_free(size, c + 1))
-}
-
-// Cell c before any word, of `size` cells of which the reserved ones end at `end`.
-fn fresh_cell(size: usize, end: usize, c: usize) -> u64
-    requires { ⌜ (size ≤ 16384) × (c ≤ 16384) ⌝ }
-    ensures { λ r. ⌜ Packs r (freshCell size end c) ⌝ }
-{
-    match c {
-        0 => cells::of_fields(0, 0, 0, 0),
-        3 => cells::of_fields(0, 4, 0, next_free(size, end)),
-        0..=20 => cells::EMPTY,
-        21..=220 => cells::of_process(),
-        _ => region_or_free(size, end, c),
-    }
-}
-
-// "The free list starts ascending", "Undefined regional cells are empty words", "H0, W and the rest of H are empty".
-fn lay(cells: &mut [u64], end: usize)
-    requires { ⌜ length (now cells) ≤ 16384 ⌝ }
-    ensures { λ _. ⌜ (unpacked (now (cells .exit)) ≡ cellsFrom (freshCell (length (now (cells .entry))) end) (length (now (cells .entry))) 0)
-        × AllFormed (now (cells .exit)) ⌝ }
-{
-    let n = cells.len();
-    let mut c = 0;
-    while c < n {
-        cells[c] = fresh_cell(n, end, c);
-        c += 1;
-    }
-}
-
-fn unmark(names: &mut [bool])
-    ensures { λ _. ⌜ now (names .exit) ≡ replicate (length (now (names .entry))) false ⌝ }
-{
-    let mut i = 0;
-    while i < names.len() {
-        names[i] = false;
-        i += 1;
-    }
-}
-
-// The book before any word.
-fn begin(cells: &mut [u64], names: &mut [bool], regions: Regions) -> Notes
-    requires { ⌜ Sized (now cells) (now names) ⌝ }
-    ensures { λ r. ⌜ (bookOf (held (regionsOf regions) r (now (cells .exit)) (now (names .exit)))
-        ≡ freshBook (length (now (cells .entry))) (regionsOf regions)) × AllFormed (now (cells .exit)) ⌝ }
-{
-    lay(cells, regions.top());
-    unmark(names);
-    Notes::none()
 }
 
 // Kind 1: "Regions come first; letters H, W, J are taken."
@@ -208,12 +152,7 @@ fn load_region(
 {
     let full = cells.len() < regions.top() + (n as usize);
     if regions.letter_taken(b, 0) | notes.words | full {
-        return Turn {
-            go: Judged::Refused(Fault::BadRegion),
-            last: false,
-            notes: notes,
-            regions: regions,
-        };
+        return stopped(regions, notes, Fault::BadRegion);
     }
     let more = regions.with(b, n);
     Turn {
@@ -266,14 +205,68 @@ fn load_parsed(
         (now (cells .entry)) (now (names .entry)) (now (cells .exit)) (now (names .exit)) r ⌝ }
 {
     match x {
-        Parsed::Nothing => Turn {
-            go: Judged::Refused(Fault::BadField),
-            last: false,
-            notes: notes,
-            regions: regions,
-        },
+        Parsed::Nothing => stopped(regions, notes, Fault::BadField),
         Parsed::Is(y) => load_record(cells, names, regions, notes, y),
     }
+}
+
+// "Checks go in table order on one record": 3 and 2, then the rest.
+fn load_one(
+    cells: &mut [u64],
+    names: &mut [bool],
+    regions: Regions,
+    notes: Notes,
+    r: &[u8],
+    kind: u8,
+    symbols: [Field; 3],
+) -> Turn
+    requires { ⌜ Made regions × Sized (now cells) (now names) × (kind ≡ byteAt (now r) 0) × Written kind (now r) symbols (symbolsAt (now r)) ⌝ }
+    ensures { λ x. ⌜ Turned (loadOne (length (now (cells .entry))) kind (now (r .entry))) regions notes
+        (now (cells .entry)) (now (names .entry)) (now (cells .exit)) (now (names .exit)) x ⌝ }
+{
+    let size = records::size_of(kind);
+    if size == 0 {
+        return stopped(regions, notes, Fault::UnknownKind);
+    }
+    if r.len() < size {
+        return stopped(regions, notes, Fault::PastEnd);
+    }
+    load_parsed(
+        cells,
+        names,
+        regions,
+        notes,
+        records::parse(r, kind, symbols),
+    )
+}
+
+// How far reading goes on: past a record that was loaded.
+fn after(go: Judged, size: usize) -> usize
+    ensures { λ r. ⌜ r ≡ after go size ⌝ }
+{
+    match go {
+        Judged::Fine => size,
+        Judged::Refused(_) => 0,
+    }
+}
+
+fn halted(go: Judged) -> bool
+    ensures { λ r. ⌜ r ≡ halted go ⌝ }
+{
+    match go {
+        Judged::Fine => false,
+        Judged::Refused(_) => true,
+    }
+}
+
+// "no kind 5, or bytes after it"
+fn if_complete(go: Judged, whole: bool) -> Judged
+    ensures { λ r. ⌜ r ≡ ifComplete go whole ⌝ }
+{
+    if halted(go) | whole {
+        return go;
+    }
+    Judged::Refused(Fault::NotEnded)
 }
 
 // One record after another, its symbols first; left at the first refusal, with its offset.
@@ -283,76 +276,37 @@ fn load_records(deck: &[u8], cells: &mut [u64], names: &mut [bool]) -> Ended
 {
     let mut regions = Regions::none();
     let mut notes = begin(cells, names, regions);
-    let mut go = Judged::Refused(Fault::NotEnded);
+    let mut go = Judged::Fine;
+    let mut last = false;
     let mut at = 0;
-    'deck: while at < deck.len() {
+    'deck: while (at < deck.len()) & !last {
         let r = &deck[at..];
         let kind = r[0];
-        let size = records::size_of(kind);
-        if size == 0 {
-            go = Judged::Refused(Fault::UnknownKind);
-            break 'deck;
-        }
-        if r.len() < size {
-            go = Judged::Refused(Fault::PastEnd);
-            break 'deck;
-        }
         let mut symbols = [Field::Blank; 3];
-        let n = records::symbols_in(kind);
+        let n = records::symbols_at(r);
         let mut i = 0;
         while i < n {
-            let s = records::symbol(r, kind, i);
-            match s {
-                Read::Symbol(f) => {
-                    symbols[i] = f;
-                }
-                Read::Nothing => {
-                    go = Judged::Refused(Fault::BadField);
-                    break 'deck;
-                }
-            }
+            let Read::Symbol(f) = records::symbol(r, kind, i) else {
+                go = Judged::Refused(Fault::BadField);
+                break 'deck;
+            };
+            symbols[i] = f;
             i += 1;
         }
-        let t = load_parsed(
-            cells,
-            names,
-            regions,
-            notes,
-            records::parse(r, kind, symbols),
-        );
-        let judged = t.go;
-        match judged {
-            Judged::Refused(f) => {
-                go = Judged::Refused(f);
-                break 'deck;
-            }
-            Judged::Fine => {}
+        let t = load_one(cells, names, regions, notes, r, kind, symbols);
+        go = t.go;
+        at += after(go, records::size_of(kind));
+        if halted(go) {
+            break 'deck;
         }
         regions = t.regions;
         notes = t.notes;
-        at += size;
-        if t.last {
-            if at == deck.len() {
-                go = Judged::Fine;
-            }
-            break 'deck;
-        }
+        last = t.last;
     }
     Ended {
-        go: go,
+        go: if_complete(go, last & (at == deck.len())),
         at: at,
         regions: regions,
-    }
-}
-
-// "all cells zero"
-fn zero(cells: &mut [u64])
-    ensures { λ _. ⌜ now (cells .exit) ≡ replicate (length (now (cells .entry))) 0 ⌝ }
-{
-    let mut i = 0;
-    while i < cells.len() {
-        cells[i] = 0;
-        i += 1;
     }
 }
 

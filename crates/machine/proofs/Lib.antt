@@ -1,1 +1,2 @@
-pub mod StepLaws
+-- Laws of a run.
+pub mod RunLaws

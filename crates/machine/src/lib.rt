@@ -1,46 +1,33 @@
-// The cycle: processes by number, execute, operate, and steps 2 and 3. Line by line the blocks of paper/specs/Cycle.
+// A run: cycles until the finish, the budget or a refusal. Line by line paper/specs/Run.
 ghost use mathlib.Core.Path.{_≡_};
-ghost use Prim.Native.Nat.{_+_, _*_, _≤_};
+ghost use Prim.Native.Nat.{_≤_};
 ghost use lib.ListN.{length};
-ghost use Rattle.paper.specs.Process.{perform};
-ghost use Rattle.undo.specs.Log.{Room};
-ghost use Rattle.undo.specs.Did.{Top, Did};
-ghost use Rattle.walk.specs.Walks.{Clean};
-ghost use Rattle.lines.specs.Ran.{Known, tableOf};
-ghost use Rattle.machine.specs.Steps.{Steps};
-use lines::Printed;
-use paper::Refusal;
-use undo::Acted;
+ghost use Rattle.paper.specs.Cell.{endOfRegions};
+ghost use Rattle.cells.specs.Pack.{AllFormed};
+ghost use Rattle.lines.specs.Ran.{tableOf};
+ghost use Rattle.cycle.specs.Turns.{Ready};
+ghost use Rattle.machine.specs.Numbers.{numbers, isFinishedIn, cyclesOn, runOn};
+use cycle::Cycled;
+use paper::RunAnswer;
+use sound::Regions;
 
-// J60 to J109: lists and structures.
-pub fn on_lists(
-    cells: &mut [u64],
-    log: &mut [u64],
-    order: &mut [u16; 16384],
-    marks: &mut [u16; 16384],
-    a: Acted,
-    top: u16,
-    j: u16,
-) -> Acted
-    requires { ⌜ Clean (now cells) (now order) (now marks) × Room (now log) (3 * length (now cells) + 10) × (60 ≤ j) × (j ≤ 109) ⌝ }
-    ensures { λ r. ⌜ Did (Top top) (3 * length (now (cells .entry)) + 10) (perform j) (now (cells .entry)) (now (log .entry)) a (now (cells .exit)) (now (log .exit)) r tt
-        × Clean (now (cells .exit)) (now (order .exit)) (now (marks .exit)) ⌝ }
-{
-    match j {
-        60 => lists::j60(cells, log, a, top),
-        63 => lists::j63(cells, log, a, top),
-        64 => lists::j64(cells, log, a, top),
-        68 => lists::j68(cells, log, a, top),
-        71 => structures::j71(cells, log, order, marks, a, top),
-        72 => structures::j72(cells, log, order, marks, a, top),
-        74 => structures::j74(cells, log, order, marks, a, top),
-        90 => processes::j90(cells, log, a),
-        _ => undo::refuse_if(a, true, Refusal::NotListed(j)),
-    }
+// The answer of a run, the cycles done, and how many bytes its lines have.
+pub struct Ran {
+    pub answer: RunAnswer,
+    pub cycles: u32,
+    pub len: usize,
 }
 
-// Any process but J1, by its number. The line that it prints, if any, is kept in `line`.
-pub fn perform(
+// Step 1: "If H1's SYMB is 0 and its LINK is 0, the run is finished"
+fn finished(cells: &[u64]) -> bool
+    ensures { λ r. ⌜ r ≡ isFinishedIn (now (cells .entry)) ⌝ }
+{
+    let h = cells::word_in(cells::peek(cells, 2));
+    (h / cells::SYMB % 65536 == 0) & (h % 65536 == 0)
+}
+
+// "The finish is looked for before the budget."
+fn cycles(
     cells: &mut [u64],
     log: &mut [u64],
     order: &mut [u16; 16384],
@@ -49,45 +36,77 @@ pub fn perform(
     letters: &[u8; 23],
     counts: &[u16; 23],
     n: usize,
-    a: Acted,
     top: u16,
-    room: usize,
-    j: u16,
-) -> Printed
-    requires { ⌜ Clean (now cells) (now order) (now marks) × Room (now log) (3 * length (now cells) + 70) × (length (now line) ≡ 32) ⌝ }
-    ensures { λ r. ⌜ Steps (Known (tableOf (now (letters .entry)) (now (counts .entry)) n) room top) (3 * length (now (cells .entry)) + 70) (perform j)
-        (now (cells .entry)) (now (log .entry)) a (now (cells .exit)) (now (log .exit)) (now (order .exit)) (now (marks .exit)) (now (line .exit)) (r .go) (r .len) tt ⌝ }
+    budget: u32,
+    out: &mut [u8],
+) -> Ran
+    requires { ⌜ Ready (now cells) (now log) (now order) (now marks) (now line) × AllFormed (now cells)
+        × (endOfRegions (tableOf (now letters) (now counts) n) 221 ≡ top) ⌝ }
+    ensures { λ r. ⌜ numbers r (now (cells .exit)) (now (out .exit))
+        ≡ cyclesOn (tableOf (now (letters .entry)) (now (counts .entry)) n) budget (now (cells .entry)) (now (out .entry)) ⌝ }
 {
-    match j {
-        0..=9 => {
-            let go = perform::first_ten(cells, log, a, top, j);
-            Printed { go: go, len: 0 }
+    let mut done = 0;
+    let mut at = 0;
+    while !finished(cells) {
+        if done == budget {
+            return Ran {
+                answer: RunAnswer::BudgetSpent,
+                cycles: done,
+                len: at,
+            };
         }
-        20..=59 => {
-            let go = perform::on_w(cells, log, a, top, j);
-            Printed { go: go, len: 0 }
-        }
-        60..=109 => {
-            let go = on_lists(cells, log, order, marks, a, top, j);
-            Printed { go: go, len: 0 }
-        }
-        110..=129 => {
-            let go = perform::on_integers(cells, log, a, top, j);
-            Printed { go: go, len: 0 }
-        }
-        130..=151 => {
-            let go = perform::on_tags(cells, log, a, top, j);
-            Printed { go: go, len: 0 }
-        }
-        152 => lines::j152(cells, log, line, a, top, letters, counts, n, room),
-        153 => lines::j153(cells, log, line, a, top, room),
-        10..=19 => {
-            let go = undo::refuse_if(a, true, Refusal::NotListed(j));
-            Printed { go: go, len: 0 }
-        }
-        154..=65535 => {
-            let go = undo::refuse_if(a, true, Refusal::NotListed(j));
-            Printed { go: go, len: 0 }
+        let c = cycle::cycle(cells, log, order, marks, line, letters, counts, n, top, out, at);
+        match c {
+            Cycled::Progress(end) => {
+                at = end;
+                done += 1;
+            }
+            Cycled::Refused(e) => {
+                return Ran {
+                    answer: RunAnswer::Refused(e),
+                    cycles: done,
+                    len: at,
+                };
+            }
         }
     }
+    Ran {
+        answer: RunAnswer::Finished,
+        cycles: done,
+        len: at,
+    }
+}
+
+// An answer before any cycle.
+fn untouched(answer: RunAnswer) -> Ran
+    ensures { λ r. ⌜ r ≡ record { answer = answer; cycles = 0; len = 0 } ⌝ }
+{
+    Ran {
+        answer: answer,
+        cycles: 0,
+        len: 0,
+    }
+}
+
+// Cells and a table as a load leaves them, or any others; lines go to `out`, whose length is the room.
+pub fn run(cells: &mut [u64], regions: Regions, budget: u32, out: &mut [u8]) -> Ran
+    ensures { λ r. ⌜ numbers r (now (cells .exit)) (now (out .exit)) ≡ runOn regions budget (now (cells .entry)) (now (out .entry)) ⌝ }
+{
+    if !sound::size_fits(cells.len()) {
+        return untouched(RunAnswer::BadSize);
+    }
+    if budget > 1000000 {
+        return untouched(RunAnswer::NotSound);
+    }
+    if !sound::sound(cells, regions) {
+        return untouched(RunAnswer::NotSound);
+    }
+    let top = regions.top() as u16;
+    let letters = regions.letters;
+    let counts = regions.counts;
+    let mut log = [0u64; 196757];
+    let mut order = [0u16; 16384];
+    let mut marks = [0u16; 16384];
+    let mut line = [0u8; 32];
+    cycles(cells, &mut log, &mut order, &mut marks, &mut line, &letters, &counts, regions.n, top, budget, out)
 }

@@ -47,7 +47,7 @@ table-more n a (x ∷ xs) r l c d h t b =
     and-both _ _ (and-both _ _ (and-both _ _ (and-both _ _ (letter-more (x .letter) xs r (e₄ .0) (eqb-false (x .letter) (r .letter) (k .0))) (e₄ .1))
     (e₃ .1)) (e₂ .1)) (table-more n (a + x .count) xs r l c d (e₁ .1) (k .1) b)
 
-end-more : (rs : List Region) (r : Region) (a : ℕ) → endOfRegions (rs ++ (r ∷ [])) a ≡ endOfRegions rs a + r .count
+pub end-more : (rs : List Region) (r : Region) (a : ℕ) → endOfRegions (rs ++ (r ∷ [])) a ≡ endOfRegions rs a + r .count
 unfolding endOfRegions
 end-more [] r a = refl
 end-more (x ∷ xs) r a = end-more xs r (a + x .count)

@@ -359,5 +359,6 @@ load deck before =
     ]
 
 unfoldable pub deckOpen : Unit {0}
-unfolding freshCell cellsFrom fresh inDeck cellOf letterTaken allWords takeCell newLocal mention known hasStructure nameFits closes cellFor cellNamed linkUp putCell fill loadWord loadInteger loadRegion loadStart loadRecord given loadOne onRes closing records load
+unfolding freshCell cellsFrom fresh inDeck cellOf letterTaken allWords takeCell newLocal mention known hasStructure nameFits closes cellFor cellNamed
+    linkUp putCell fill loadWord loadInteger loadRegion loadStart loadRecord given loadOne onRes closing records load
 deckOpen = tt

@@ -1,24 +1,24 @@
 -- Laws of symbols and records: a symbol by its class, an integer's value, a record by its kind.
 use Prim.Native.Nat.{ℕ, zero, suc, _+_, _-_, _*_, _^_, _<_, _≤_}
-use mathlib.Core.Bool.{Bool, true, false, cond, _&&_, and-false}
+use mathlib.Core.Bool.{Bool, true, false, cond, _&&_, _||_, and-false}
 use mathlib.Core.List.{List, [], _∷_}
 use mathlib.Core.Logic.{_⊎_, ⊎-elim}
 use mathlib.Core.Option.{Option, none, some}
 use mathlib.Core.Path.{_≡_, refl, ap, _∙_, sym, subst}
 use native.Mathlib.Omega.{arith}
 use native.Mathlib.Decide.{ℕ-discrete}
-use borrow.Author.Tests.{lt-ltb, le-ltb, le-leb, lt-leb, eq-eqb, ne-eqb}
+use borrow.Author.Tests.{lt-ltb, le-ltb, le-leb, lt-leb, ne-eqb, ltb-false, eqb-false}
 use lib.Dec.{eqb, ltb, leb}
-use lib.ListN.{getD}
+use lib.ListN.{getD, length}
 use lib.IntN.{ℤ, pos, negsuc}
 use Rattle.paper.specs.Step.{choose}
 use Rattle.paper.specs.declared.Field.{Field}
 use Rattle.paper.specs.declared.Field.the-variants.{Regional, Local, Zero, Blank}
-use Rattle.paper.specs.Record.{Record, region, routine, datum, number, start, field, guard, signed32, byteAt, recordAt, regionAt, routineAt}
-use Rattle.paper.specs.Record.{datumAt, numberAt, startAt, startWith, onField, mayName, maySymb, mayLinkData, pairAt, fieldAt}
+use Rattle.paper.specs.Record.{region, routine, datum, number, field, guard, signed32, byteAt, recordAt, regionAt, routineAt}
+use Rattle.paper.specs.Record.{datumAt, numberAt, startAt, startWith, onField, mayName, maySymb, mayLinkData, pairAt, fieldAt, sizeOf}
 use Rattle.paper.specs.Sound.{isLetter}
 use Rattle.cells.specs.Layout.{valueOf}
-use Rattle.records.specs.Symbols.{Written, symbolsIn, placeOf, symbolAt}
+use Rattle.records.specs.Symbols.{Written, symbolsIn, symbolsAt, placeOf, symbolAt}
 use Rattle.cells.proofs.Laws.{value-low, value-high}
 
 -- a decision, one test after another
@@ -202,11 +202,26 @@ module _ (r : List ℕ) where
       go (no a) (no b) (no c) (yes p) = kind-4 r (sym k ∙ p) ∙ none-first _ _ (bad-only 4 i (at 4 p) (there 4 p))
       go (no a) (no b) (no c) (no d) = kind-5 r kind k a b c d ∙ none-first _ _ (bad-only kind i (omega (arith, h, one-symbol kind a b c)) e)
 
-pub few-symbols : (kind : ℕ) → symbolsIn kind ≤ 3
-few-symbols kind = go (eqb kind 1) (eqb kind 2) (eqb kind 3)
-  where
-    go : (a b c : Bool) → cond a 0 (cond b 3 (cond c 3 1)) ≤ 3
-    go true b c = omega arith
-    go false true c = omega arith
-    go false false true = omega arith
-    go false false false = omega arith
+-- the symbols of a record that is whole, and of any
+pub all-symbols : (r : List ℕ) (kind : ℕ) → kind ≡ byteAt r 0 → (sizeOf kind ≡ 0 → ⊥) → sizeOf kind ≤ length r → symbolsAt r ≡ symbolsIn kind
+all-symbols r kind k z h = simp (← k, ne-eqb (sizeOf kind) 0 z, le-ltb (length r) (sizeOf kind) h)
+
+module _ (r : List ℕ) where
+  pub has-symbol : (i : ℕ) → i < symbolsAt r → (sizeOf (byteAt r 0) ≡ 0 → ⊥) × (sizeOf (byteAt r 0) ≤ length r) × (i < symbolsIn (byteAt r 0))
+  has-symbol i h = go (eqb (sizeOf (byteAt r 0)) 0) (ltb (length r) (sizeOf (byteAt r 0))) refl refl h
+    where
+      go : (a b : Bool) → eqb (sizeOf (byteAt r 0)) 0 ≡ a → ltb (length r) (sizeOf (byteAt r 0)) ≡ b → i < cond (a || b) 0 (symbolsIn (byteAt r 0))
+          → (sizeOf (byteAt r 0) ≡ 0 → ⊥) × (sizeOf (byteAt r 0) ≤ length r) × (i < symbolsIn (byteAt r 0))
+      go true b e f h = absurd (omega arith)
+      go false true e f h = absurd (omega arith)
+      go false false e f h = (eqb-false _ _ e, ltb-false _ _ f, h)
+
+  pub few-symbols : symbolsAt r ≤ 3
+  few-symbols = go (eqb (sizeOf (byteAt r 0)) 0 || ltb (length r) (sizeOf (byteAt r 0))) (eqb (byteAt r 0) 1) (eqb (byteAt r 0) 2) (eqb (byteAt r 0) 3)
+    where
+      go : (n a b c : Bool) → cond n 0 (cond a 0 (cond b 3 (cond c 3 1))) ≤ 3
+      go true a b c = omega arith
+      go false true b c = omega arith
+      go false false true c = omega arith
+      go false false false true = omega arith
+      go false false false false = omega arith

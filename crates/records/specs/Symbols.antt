@@ -1,14 +1,14 @@
 -- What the code reads of a record, as the definitions have it: a symbol, a record, and where the symbols of a record stand.
 use Prim.Native.Nat.{ℕ, _<_}
-use mathlib.Core.Bool.{cond}
-use mathlib.Core.List.{List, [], _∷_}
+use mathlib.Core.Bool.{cond, _||_}
+use mathlib.Core.List.{List}
 use mathlib.Core.Option.{Option, none, some}
 use mathlib.Core.Path.{_≡_}
-use lib.Dec.{eqb}
-use lib.ListN.{getD}
+use lib.Dec.{eqb, ltb}
+use lib.ListN.{getD, length}
 use Rattle.paper.specs.declared.Field.{Field}
 use Rattle.paper.specs.declared.Field.the-variants.{Regional}
-use Rattle.paper.specs.Record.{Record, region, routine, datum, number, start, fieldAt}
+use Rattle.paper.specs.Record.{Record, region, routine, datum, number, start, byteAt, sizeOf, fieldAt}
 use Rattle.cells.specs.Layout.{valueOf}
 use Rattle.records.specs.declared.Read.{Read}
 use Rattle.records.specs.declared.Read.the-variants.{Symbol, Nothing}
@@ -35,6 +35,10 @@ parsedOf NoRecord = none
 -- how many symbols a record has by its kind: a word NAME, SYMB and LINK, an integer its NAME, the last record the start symbol
 abbrev pub symbolsIn : ℕ → ℕ
 symbolsIn kind = cond (eqb kind 1) 0 (cond (eqb kind 2) 3 (cond (eqb kind 3) 3 1))
+
+-- no symbol is read of a record of unknown kind (3) or one that runs past the end (2)
+abbrev pub symbolsAt : List ℕ → ℕ
+symbolsAt r = cond (eqb (sizeOf (byteAt r 0)) 0 || ltb (length r) (sizeOf (byteAt r 0))) 0 (symbolsIn (byteAt r 0))
 
 -- where symbol i stands: P and Q of a routine word come before its SYMB
 abbrev pub placeOf : ℕ → ℕ → ℕ

@@ -8,7 +8,7 @@ ghost use Rattle.paper.specs.Record.{region, routine, datum, number, byteAt, pa
 ghost use Rattle.paper.specs.Record.{guard, signed32, startWith, recordAt};
 ghost use Rattle.paper.specs.Sound.{isLetter};
 ghost use Rattle.cells.specs.Layout.{valueOf};
-ghost use Rattle.records.specs.Symbols.{readOf, recordOf, parsedOf, symbolsIn, placeOf, Written};
+ghost use Rattle.records.specs.Symbols.{readOf, recordOf, parsedOf, symbolsIn, symbolsAt, placeOf, Written};
 use paper::Field;
 
 // A record; an integer is its value + 2^31.
@@ -98,8 +98,7 @@ pub fn size_of(kind: u8) -> usize
     }
 }
 
-// How many symbols a record has.
-pub fn symbols_in(kind: u8) -> usize
+fn symbols_in(kind: u8) -> usize
     ensures { λ x. ⌜ x ≡ symbolsIn kind ⌝ }
 {
     match kind {
@@ -108,6 +107,18 @@ pub fn symbols_in(kind: u8) -> usize
         3 => 3,
         _ => 1,
     }
+}
+
+// How many symbols the record at r has; none if it is not whole, since 3 and 2 come before 4.
+pub fn symbols_at(r: &[u8]) -> usize
+    ensures { λ x. ⌜ x ≡ symbolsAt (now (r .entry)) ⌝ }
+{
+    let kind = byte_at(r, 0);
+    let size = size_of(kind);
+    if (size == 0) | (r.len() < size) {
+        return 0;
+    }
+    symbols_in(kind)
 }
 
 // The place of symbol i of a record.

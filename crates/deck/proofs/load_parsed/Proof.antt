@@ -1,10 +1,11 @@
-use Rattle.deck.proofs.RecordLaws.{turned-as}
+use Rattle.deck.proofs.RecordLaws.{turned-as, turned-to}
+use Rattle.deck.proofs.ReadLaws.{stops, not-written}
 use Rattle.deck.specs.Load.{oneParsed, oneRecord, AllLettered}
-use Rattle.book.proofs.DidLaws.{bind, give, stop, skipped}
+use Rattle.book.proofs.DidLaws.{bind, give}
 use Rattle.records.specs.Symbols.{parsedOf}
-use Rattle.paper.specs.Record.{start}
 use Rattle.paper.specs.Deck.{given}
 use lib.ListN.{length}
+use mathlib.Core.Option.{none}
 use mathlib.Core.Path.{subst, refl}
 use borrow.Author.Needs.{needs}
 use Rattle.deck.proofs.load_parsed.Statement.{statement}
@@ -17,11 +18,11 @@ load-record-requires c κs =
     (c₂ .pre .0, c₂ .pre .1, subst AllLettered (c₁ .x .given .1) (c₂ .pre .2))
 
 returns : tie.Need-returns
-unfolding oneParsed given
 returns c =
-    let c₁ = c .before .before .before .before in
-    turned-as (λ y. oneParsed (length (c₁ .args .cells .now)) (parsedOf y)) (c .enum-told .given .1)
-    (record { did = bind (oneRecord _) (stop _ {v = start 0 0} refl) skipped; made = (c₁ .pre .0) })
+    let c₁ = c .before in
+    let c₂ = c₁ .before .before .before .before in
+    turned-as (λ y. oneParsed (length (c₂ .args .cells .now)) (parsedOf y)) (c₁ .enum-told .given .1)
+    (turned-to (c .stopped .ensures) (stops _ (not-written _ none _ refl) (c₂ .pre .0)))
 
 returns-2 : tie.Need-returns-2
 unfolding oneParsed given
@@ -37,6 +38,7 @@ load-parsed-spec =
     tie.close
     (tie.spec
     (λ c. search needs)
+    (λ c κs. search needs)
     (λ c. search needs)
     load-record-requires
     returns

@@ -1,5 +1,5 @@
 use Rattle.deck.proofs.TableLaws.{listed, made-more}
-use Rattle.deck.proofs.RecordLaws.{turned, lays, none-holds}
+use Rattle.deck.proofs.RecordLaws.{turned, turned-to, lays, none-holds}
 use Rattle.deck.specs.Load.{Made}
 use Rattle.book.proofs.DidLaws.{test, sees, skipped, judged-yes, judged-no}
 use Rattle.book.specs.Did.{Always}
@@ -17,12 +17,14 @@ use Rattle.deck.proofs.load_region.Tie as tie
 returns : tie.Need-returns
 unfolding loadRegion
 returns c =
-    let c₁ = c .before .before in
+    let c₀ = c .before in
+    let c₁ = c₀ .before .before in
     let c₂ = c₁ .before in
     let c₃ = c₂ .before .before .before in
-    turned refl (c₃ .pre .0)
+    turned-to (c .stopped .ensures)
+    (turned refl (c₃ .pre .0)
     (sees _ _ (sym (c₁ .letter-taken .ensures))
-    (sees _ _ refl (sees _ _ (sym (c₂ .top .ensures)) (test (judged-yes {K = Always} _ _ (c .if1 .taken) refl) tt skipped))))
+    (sees _ _ refl (sees _ _ (sym (c₂ .top .ensures)) (test (judged-yes {K = Always} _ _ (c₀ .if1 .taken) refl) tt skipped)))))
 
 -- the table's arrays have 23 places
 sized : (c : tie.After-slice-known4)
@@ -59,6 +61,7 @@ load-region-spec =
     (tie.spec
     (λ c κs. search needs)
     (λ c. search needs)
+    (λ c κs. search needs)
     (λ c κs. search needs)
     returns
     (λ c κs. search needs)

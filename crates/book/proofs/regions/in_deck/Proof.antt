@@ -1,4 +1,5 @@
-use Rattle.book.proofs.RegionLaws.{rest, end-more, more-fits, deck-here, deck-past, deck-more, deck-none}
+use Rattle.sound.proofs.RegionLaws.{rest, end-more}
+use Rattle.book.proofs.RegionLaws.{more-fits, deck-here, deck-past, deck-more, deck-none}
 use Rattle.sound.specs.Table.{regionsOf}
 use Rattle.paper.specs.Deck.{inDeck}
 use Rattle.paper.specs.Cell.{endOfRegions}
@@ -31,7 +32,7 @@ cast-result c =
       c .wide .ensures .0,
       c₃ .pre .ends,
       c₁ .loop .inv .2,
-      more-fits (c₃ .args .t1) (c₁ .loop .i) (omega (arith, c₂ .len .ensures .0)) (c₁ .loop .from) _ 0 0 refl
+      more-fits (c₃ .args .t1) (c₁ .loop .i) (omega (arith, c₂ .len .ensures .0)) (c₁ .loop .from) _ refl
           (omega (arith, c₃ .pre .ends, c₁ .loop .inv .2)),
     )
 
@@ -67,8 +68,8 @@ loop-again c =
     let c₄ = c₃ .before in
     let h : (c₂ .loop .i) < length (regionsOf (c₄ .args .t1)) = omega (arith, c₃ .len .ensures .0) in (
       search needs,
-      more-fits (c₄ .args .t1) (c₂ .loop .i) h (c₂ .loop .from) _ 0 0 (c .wide2 .ensures .0) (omega (arith, c₄ .pre .ends, c₂ .loop .inv .2)),
-      end-more (c₄ .args .t1) (c₂ .loop .i) h (c₂ .loop .from) _ 0 0 (c .wide2 .ensures .0) ∙ c₂ .loop .inv .2,
+      more-fits (c₄ .args .t1) (c₂ .loop .i) h (c₂ .loop .from) _ (c .wide2 .ensures .0) (omega (arith, c₄ .pre .ends, c₂ .loop .inv .2)),
+      end-more (c₄ .args .t1) (c₂ .loop .i) h (c₂ .loop .from) _ (c .wide2 .ensures .0) ∙ c₂ .loop .inv .2,
       deck-more (c₄ .args .t1) (c₂ .loop .i) h (c₂ .loop .from) _ (c₄ .args .b) (c₄ .args .n) (c .wide2 .ensures .0) (c₁ .if1 .left)
           ∙ c₂ .loop .inv .3,
     )

@@ -1,0 +1,38 @@
+use native.Mathlib.Omega.{arith}
+use borrow.Author.Tests.{eq-eqb, ne-eqb}
+use Rattle.paper.specs.Cycle.{cycle}
+use Rattle.undo.proofs.Readings.{any-sees}
+use Rattle.perform.proofs.StepLaws.{clean-on, quietly, steps-most, steps-sees}
+use Rattle.cycle.proofs.StageLaws.{steps-yes, steps-no}
+use borrow.Author.Needs.{needs}
+use Rattle.cycle.proofs.attempt.Statement.{statement}
+use Rattle.cycle.proofs.attempt.Tie as tie
+
+returns : tie.Need-returns
+unfolding cycle
+returns c =
+    let p = c .before .before .before .before .before .before .before .before .before .before .before .before .pre in
+    let d = c .before .before .before .before .ascend in
+    steps-sees _ (any-sees (c .before .before .before .before .before .before .before .before .own .ensures))
+    (steps-yes _ (eq-eqb _ _ (c .before .before .before .before .before .before .before .if1 .taken)) (steps-most _ (omega arith) (quietly (p .2) (clean-on (d .kept .0) (p .0)) (d .ensures))))
+
+returns-2 : tie.Need-returns-2
+unfolding cycle
+returns-2 c =
+    steps-sees _ (any-sees (c .before .before .before .before .before .before .before .before .before .before .before .own .ensures))
+    (steps-no _ (ne-eqb _ _ (c .before .before .before .before .before .before .before .before .before .before .if1 .left)) (c .before .before .before .before .interpret .ensures))
+
+pub attempt-spec : {M : Type 1} → statement M
+attempt-spec =
+    tie.close
+    (tie.spec
+    (λ c κs. search needs)
+    (λ c. search needs)
+    (λ c κs. search needs)
+    (λ c. search needs)
+    (λ c. search needs)
+    returns
+    (λ c κs. search needs)
+    (λ c. search needs)
+    (λ c. search needs)
+    returns-2)

@@ -1,0 +1,60 @@
+use mathlib.Core.Path.{ap, sym, _∙_}
+use native.Mathlib.Omega.{arith}
+use Rattle.paper.specs.Process.{perform}
+use Rattle.undo.proofs.Lines.{any, test, reads, else}
+use Rattle.undo.proofs.Readings.{any-on}
+use Rattle.perform.proofs.StepLaws.{clean-on, quietly, steps-most, steps-alike, steps-test, steps-reads}
+use Rattle.cycle.specs.Reaches.{atOnce}
+use Rattle.cycle.proofs.ReachLaws.{reach-steps}
+use Rattle.cycle.proofs.StageLaws.{steps-after, steps-yes}
+use borrow.Author.Needs.{needs}
+use Rattle.cycle.proofs.execute.Statement.{statement}
+use Rattle.cycle.proofs.execute.Tie as tie
+
+perform-requires : tie.Need-perform-requires
+perform-requires c κs =
+    let p = c .before .before .before .before .before .before .before .before .before .before .before .before .before .before .before .before .before .before .before .before .before .pre in
+    let d = c .before .before .before .before .before .before .before .before .before .before .before .before .before .before .before .before .past-j1 in
+    (clean-on (d .kept .0) (p .0), record { fits = omega (arith, d .kept .0, d .kept .1 .0, d .ensures .count, p .1 .fits) }, p .2)
+
+returns : tie.Need-returns
+unfolding atOnce
+returns c =
+    let d = c .before .before .before .before .before .before .before .before .before .before .before .before .before .before .before .before .before .before .before .before .before .past-j1 in
+    steps-most _ (omega (arith, d .kept .0))
+    (reach-steps (d .ensures)
+    (steps-reads _ (any-on (c .before .before .before .before .before .before .before .before .before .before .before .before .before .before .touch .ensures))
+    (steps-test (c .before .before .before .before .before .before .before .before .before .before .before .before .before .not-own .ensures)
+    (steps-yes _ (sym (c .before .before .before .before .before .before .before .before .before .before .before .before .is-process .ensures) ∙ c .before .before .before .before .before .before .before .before .before .before .before .if1 .taken)
+    (steps-after (steps-alike (ap perform (c .before .before .before .before .before .before .before .before .before .before .process-number .ensures)) (c .before .before .before .before .perform .ensures)))))))
+
+returns-2 : tie.Need-returns-2
+unfolding atOnce
+returns-2 c =
+    let d = c .before .before .before .before .before .before .before .before .before .before .before .before .before .before .before .before .before .past-j1 in
+    let f = c .before .before .before .before .descend in
+    let p = c .before .before .before .before .before .before .before .before .before .before .before .before .before .before .before .before .before .before .before .before .before .before .pre in
+    steps-most _ (omega arith)
+    (reach-steps (d .ensures)
+    (quietly (p .2) (clean-on (f .kept .0 ∙ d .kept .0) (p .0))
+    (reads _ (any-on (c .before .before .before .before .before .before .before .before .before .before .touch .ensures))
+    (test (c .before .before .before .before .before .before .before .before .before .not-own .ensures)
+    (else _ (sym (c .before .before .before .before .before .before .before .before .is-process .ensures) ∙ c .before .before .before .before .before .before .before .if1 .left) (any (f .ensures)))))))
+
+pub execute-spec : {M : Type 1} → statement M
+execute-spec =
+    tie.close
+    (tie.spec
+    (λ c κs. search needs)
+    (λ c κs. search needs)
+    (λ c κs. search needs)
+    (λ c κs. search needs)
+    (λ c κs. search needs)
+    perform-requires
+    (λ c. search needs)
+    (λ c. search needs)
+    returns
+    (λ c κs. search needs)
+    (λ c. search needs)
+    (λ c. search needs)
+    returns-2)

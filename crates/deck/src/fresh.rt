@@ -1,0 +1,93 @@
+// The cells before any word, and after a refusal.
+ghost use mathlib.Core.Path.{_≡_};
+ghost use mathlib.Core.Bool.{false};
+ghost use Prim.Native.Nat.{_≤_};
+ghost use lib.ListN.{length, replicate};
+ghost use Rattle.paper.specs.Deck.{nextFree, freshCell, cellsFrom, freshBook};
+ghost use Rattle.cells.specs.Pack.{Packs, AllFormed};
+ghost use Rattle.cells.specs.Bridge.{unpacked};
+ghost use Rattle.sound.specs.Table.{regionsOf};
+ghost use Rattle.book.specs.Kept.{held, bookOf};
+ghost use Rattle.deck.specs.Load.{Sized};
+use book::Notes;
+use sound::Regions;
+
+fn next_free(size: usize, c: usize) -> u16
+    requires { ⌜ size ≤ 16384 ⌝ }
+    ensures { λ r. ⌜ r ≡ nextFree size c ⌝ }
+{
+    if c < size {
+        return c as u16;
+    }
+    0
+}
+
+fn region_or_free(size: usize, end: usize, c: usize) -> u64
+    requires { ⌜ (size ≤ 16384) × (c ≤ 16384) × (221 ≤ c) ⌝ }
+    ensures { λ r. ⌜ Packs r (freshCell size end c) ⌝ }
+{
+    if c < end {
+        return cells::EMPTY;
+    }
+    cells::of_free(next_free(size, c + 1))
+}
+
+// Cell c before any word, of `size` cells of which the reserved ones end at `end`.
+fn fresh_cell(size: usize, end: usize, c: usize) -> u64
+    requires { ⌜ (size ≤ 16384) × (c ≤ 16384) ⌝ }
+    ensures { λ r. ⌜ Packs r (freshCell size end c) ⌝ }
+{
+    match c {
+        0 => cells::of_fields(0, 0, 0, 0),
+        3 => cells::of_fields(0, 4, 0, next_free(size, end)),
+        0..=20 => cells::EMPTY,
+        21..=220 => cells::of_process(),
+        _ => region_or_free(size, end, c),
+    }
+}
+
+// "The free list starts ascending", "Undefined regional cells are empty words", "H0, W and the rest of H are empty".
+fn lay(cells: &mut [u64], end: usize)
+    requires { ⌜ length (now cells) ≤ 16384 ⌝ }
+    ensures { λ _. ⌜ (unpacked (now (cells .exit)) ≡ cellsFrom (freshCell (length (now (cells .entry))) end) (length (now (cells .entry))) 0)
+        × AllFormed (now (cells .exit)) ⌝ }
+{
+    let n = cells.len();
+    let mut c = 0;
+    while c < n {
+        cells[c] = fresh_cell(n, end, c);
+        c += 1;
+    }
+}
+
+fn unmark(names: &mut [bool])
+    ensures { λ _. ⌜ now (names .exit) ≡ replicate (length (now (names .entry))) false ⌝ }
+{
+    let mut i = 0;
+    while i < names.len() {
+        names[i] = false;
+        i += 1;
+    }
+}
+
+// The book before any word.
+pub fn begin(cells: &mut [u64], names: &mut [bool], regions: Regions) -> Notes
+    requires { ⌜ Sized (now cells) (now names) ⌝ }
+    ensures { λ r. ⌜ (bookOf (held (regionsOf regions) r (now (cells .exit)) (now (names .exit)))
+        ≡ freshBook (length (now (cells .entry))) (regionsOf regions)) × AllFormed (now (cells .exit)) ⌝ }
+{
+    lay(cells, regions.top());
+    unmark(names);
+    Notes::none()
+}
+
+// "all cells zero"
+pub fn zero(cells: &mut [u64])
+    ensures { λ _. ⌜ now (cells .exit) ≡ replicate (length (now (cells .entry))) 0 ⌝ }
+{
+    let mut i = 0;
+    while i < cells.len() {
+        cells[i] = 0;
+        i += 1;
+    }
+}
