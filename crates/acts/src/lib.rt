@@ -1,5 +1,5 @@
 // The small actions of a cycle, line by line the blocks of paper/specs/Act. Each takes the answer so far and does nothing where
-// that is a refusal. Reserved cells are those below `top`, where the deck regions end.
+// that is a refusal; it is looked at once, before the writes. Reserved cells are those below `top`, where the deck regions end.
 ghost use mathlib.Core.Path.{_≡_};
 ghost use mathlib.Core.Bool.{_&&_, _||_};
 ghost use lib.Dec.{eqb};
@@ -138,11 +138,22 @@ pub fn take_as(cells: &mut [u64], log: &mut [u64], a: Acted, y: u64) -> GotCell
     let h = own(cells, 3);
     let f = (h % 65536) as u16;
     let go = undo::refuse_if(a, f == 0, Refusal::NoFreeCell);
-    let x = cells::peek(cells, f);
-    let z = cells::with_link(h, cells::free_link(x));
-    undo::put(cells, log, go, 3, z);
-    undo::put(cells, log, go, f, y);
-    GotCell { go: go, c: f }
+    match go {
+        Acted::Done => {
+            let x = cells::peek(cells, f);
+            let z = cells::with_link(h, cells::free_link(x));
+            undo::put(cells, log, Acted::Done, 3, z);
+            undo::put(cells, log, Acted::Done, f, y);
+            GotCell {
+                go: Acted::Done,
+                c: f,
+            }
+        }
+        Acted::Refused(e) => GotCell {
+            go: Acted::Refused(e),
+            c: f,
+        },
+    }
 }
 
 pub fn release(cells: &mut [u64], log: &mut [u64], a: Acted, c: u16)
@@ -203,9 +214,14 @@ pub fn pull_up(cells: &mut [u64], log: &mut [u64], a: Acted, top: u16, c: u16, b
     let b = g.go;
     let d = undo::refuse_if(b, q1_for_hw(c, v), Refusal::WrongKind(below));
     let go = undo::refuse_if(d, reserved(top, below), Refusal::NotToBeFreed(below));
-    undo::put(cells, log, go, c, cells::of_word(v));
-    release(cells, log, go, below);
-    go
+    match go {
+        Acted::Done => {
+            undo::put(cells, log, Acted::Done, c, cells::of_word(v));
+            release(cells, log, Acted::Done, below);
+            Acted::Done
+        }
+        Acted::Refused(e) => Acted::Refused(e),
+    }
 }
 
 pub fn restore(cells: &mut [u64], log: &mut [u64], a: Acted, top: u16, c: u16) -> Acted
@@ -227,9 +243,14 @@ pub fn store(cells: &mut [u64], log: &mut [u64], a: Acted, c: u16, x: Symbol) ->
     let g = named(cells, a, c);
     let w = g.x;
     let go = g.go;
-    let z = cells::with_symbol(w, x);
-    undo::put(cells, log, go, c, z);
-    go
+    match go {
+        Acted::Done => {
+            let z = cells::with_symbol(w, x);
+            undo::put(cells, log, Acted::Done, c, z);
+            Acted::Done
+        }
+        Acted::Refused(e) => Acted::Refused(e),
+    }
 }
 
 pub fn own_preserve(cells: &mut [u64], log: &mut [u64], a: Acted, c: u16) -> Acted
@@ -263,14 +284,19 @@ pub fn push(cells: &mut [u64], log: &mut [u64], a: Acted, x: Symbol) -> Acted
     requires { ⌜ Room (now log) 3 ⌝ }
     ensures { λ r. ⌜ Did Always 3 (push x) (now (cells .entry)) (now (log .entry)) a (now (cells .exit)) (now (log .exit)) r tt ⌝ }
 {
-    let w = own(cells, 1);
-    let y = cells::of_word(w);
-    let t = take_as(cells, log, a, y);
-    let n = t.c;
-    let go = t.go;
-    let z = cells::of_fields((w / cells::P % 256) as u8, x.tag, x.num, n);
-    undo::put(cells, log, go, 1, z);
-    go
+    match a {
+        Acted::Done => {
+            let w = own(cells, 1);
+            let y = cells::of_word(w);
+            let t = take_as(cells, log, Acted::Done, y);
+            let n = t.c;
+            let go = t.go;
+            let z = cells::of_fields((w / cells::P % 256) as u8, x.tag, x.num, n);
+            undo::put(cells, log, go, 1, z);
+            go
+        }
+        Acted::Refused(e) => Acted::Refused(e),
+    }
 }
 
 pub fn pop(cells: &mut [u64], log: &mut [u64], a: Acted, top: u16) -> Acted

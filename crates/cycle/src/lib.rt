@@ -4,14 +4,16 @@ ghost use mathlib.Core.Bool.{false};
 ghost use Prim.Native.Nat.{_+_, _-_, _*_, _<_, _≤_};
 ghost use lib.ListN.{length, take};
 ghost use Rattle.paper.specs.Cell.{endOfRegions};
-ghost use Rattle.paper.specs.Cycle.{executes, operate, obey, direct, interpret, cycle};
+ghost use Rattle.paper.specs.Cycle.{executes, operate, interpret, cycle};
 ghost use Rattle.cells.specs.Layout.{wordOf};
 ghost use Rattle.undo.specs.Log.{Room};
-ghost use Rattle.undo.specs.Did.{Top, Did};
+ghost use Rattle.undo.specs.declared.Acted.the-variants.{Done};
+ghost use Rattle.undo.specs.Did.{Top, Reads, Did};
 ghost use Rattle.walk.specs.Walks.{Clean};
 ghost use Rattle.lines.specs.Ran.{Known, tableOf};
 ghost use Rattle.perform.specs.Steps.{Steps};
 ghost use Rattle.cycle.specs.Reaches.{isJ1, atOnce, Reaches};
+ghost use Rattle.cycle.specs.Order.{orderOf, orderIn, fetch};
 ghost use Rattle.cycle.specs.Turns.{Ready, Turns, Fits, Settles};
 use acts::GotSymbol;
 use lines::Printed;
@@ -72,7 +74,7 @@ fn process_number(c: u16) -> u16
 }
 
 // "a process is done at once; any other kind preserves H1 and puts S in it"
-pub fn execute(
+fn execute(
     cells: &mut [u64],
     log: &mut [u64],
     order: &mut [u16; 16384],
@@ -81,16 +83,15 @@ pub fn execute(
     letters: &[u8; 23],
     counts: &[u16; 23],
     n: usize,
-    a: Acted,
     top: u16,
     room: usize,
     x: Symbol,
 ) -> Operated
     requires { ⌜ Clean (now cells) (now order) (now marks) × Room (now log) (6 * length (now cells) + 73) × (length (now line) ≡ 32) ⌝ }
     ensures { λ r. ⌜ Steps (Known (tableOf (now (letters .entry)) (now (counts .entry)) n) room top) (6 * length (now (cells .entry)) + 73) (executes x)
-        (now (cells .entry)) (now (log .entry)) a (now (cells .exit)) (now (log .exit)) (now (order .exit)) (now (marks .exit)) (now (line .exit)) (r .go) (r .len) (r .moved) ⌝ }
+        (now (cells .entry)) (now (log .entry)) Done (now (cells .exit)) (now (log .exit)) (now (order .exit)) (now (marks .exit)) (now (line .exit)) (r .go) (r .len) (r .moved) ⌝ }
 {
-    let g = past_j1(cells, log, a, top, x);
+    let g = past_j1(cells, log, Acted::Done, top, x);
     let y = g.x;
     let b = g.go;
     let t = acts::touch(cells, b, y.num);
@@ -115,20 +116,20 @@ pub fn execute(
 }
 
 // P 1 to 6.
-fn on_symbol(cells: &mut [u64], log: &mut [u64], a: Acted, top: u16, p: u8, x: Symbol) -> Acted
+fn on_symbol(cells: &mut [u64], log: &mut [u64], top: u16, p: u8, x: Symbol) -> Acted
     requires { ⌜ Room (now log) 4 × (1 ≤ p) × (p ≤ 6) ⌝ }
-    ensures { λ r. ⌜ Did (Top top) 4 (operate p x) (now (cells .entry)) (now (log .entry)) a (now (cells .exit)) (now (log .exit)) r false ⌝ }
+    ensures { λ r. ⌜ Did (Top top) 4 (operate p x) (now (cells .entry)) (now (log .entry)) Done (now (cells .exit)) (now (log .exit)) r false ⌝ }
 {
     match p {
-        1 => acts::push(cells, log, a, x),
-        2 => control::put_in(cells, log, a, top, x.num),
-        3 => acts::restore(cells, log, a, top, x.num),
-        4 => acts::preserve(cells, log, a, x.num),
+        1 => acts::push(cells, log, Acted::Done, x),
+        2 => control::put_in(cells, log, Acted::Done, top, x.num),
+        3 => acts::restore(cells, log, Acted::Done, top, x.num),
+        4 => acts::preserve(cells, log, Acted::Done, x.num),
         5 => {
-            acts::own_store(cells, log, a, 1, x);
-            a
+            acts::own_store(cells, log, Acted::Done, 1, x);
+            Acted::Done
         }
-        _ => control::copy_to(cells, log, a, x.num),
+        _ => control::copy_to(cells, log, Acted::Done, x.num),
     }
 }
 
@@ -142,7 +143,6 @@ fn operate(
     letters: &[u8; 23],
     counts: &[u16; 23],
     n: usize,
-    a: Acted,
     top: u16,
     room: usize,
     p: u8,
@@ -150,12 +150,12 @@ fn operate(
 ) -> Operated
     requires { ⌜ Clean (now cells) (now order) (now marks) × Room (now log) (6 * length (now cells) + 73) × (length (now line) ≡ 32) ⌝ }
     ensures { λ r. ⌜ Steps (Known (tableOf (now (letters .entry)) (now (counts .entry)) n) room top) (6 * length (now (cells .entry)) + 73) (operate p x)
-        (now (cells .entry)) (now (log .entry)) a (now (cells .exit)) (now (log .exit)) (now (order .exit)) (now (marks .exit)) (now (line .exit)) (r .go) (r .len) (r .moved) ⌝ }
+        (now (cells .entry)) (now (log .entry)) Done (now (cells .exit)) (now (log .exit)) (now (order .exit)) (now (marks .exit)) (now (line .exit)) (r .go) (r .len) (r .moved) ⌝ }
 {
     match p {
-        0 => execute(cells, log, order, marks, line, letters, counts, n, a, top, room, x),
+        0 => execute(cells, log, order, marks, line, letters, counts, n, top, room, x),
         1..=6 => {
-            let go = on_symbol(cells, log, a, top, p, x);
+            let go = on_symbol(cells, log, top, p, x);
             Operated {
                 go: go,
                 moved: false,
@@ -163,9 +163,9 @@ fn operate(
             }
         }
         _ => {
-            let moved = control::branch(cells, log, a, x);
+            let moved = control::branch(cells, log, Acted::Done, x);
             Operated {
-                go: a,
+                go: Acted::Done,
                 moved: moved,
                 len: 0,
             }
@@ -173,67 +173,54 @@ fn operate(
     }
 }
 
-// Step 3, a word w that was fetched from cell c.
-fn obey(
-    cells: &mut [u64],
-    log: &mut [u64],
-    order: &mut [u16; 16384],
-    marks: &mut [u16; 16384],
-    line: &mut [u8; 32],
-    letters: &[u8; 23],
-    counts: &[u16; 23],
-    n: usize,
-    a: Acted,
-    top: u16,
-    room: usize,
-    c: u16,
-    w: u64,
-) -> Printed
-    requires { ⌜ Clean (now cells) (now order) (now marks) × Room (now log) (6 * length (now cells) + 74) × (length (now line) ≡ 32) ⌝ }
-    ensures { λ r. ⌜ Steps (Known (tableOf (now (letters .entry)) (now (counts .entry)) n) room top) (6 * length (now (cells .entry)) + 74) (obey c (wordOf w))
-        (now (cells .entry)) (now (log .entry)) a (now (cells .exit)) (now (log .exit)) (now (order .exit)) (now (marks .exit)) (now (line .exit)) (r .go) (r .len) tt ⌝ }
+// What is to be done: P, S and the LINK.
+struct Fetched {
+    go: Acted,
+    p: u8,
+    x: Symbol,
+    link: u16,
+}
+
+// A word w that was fetched from cell c.
+fn order_in(cells: &[u64], a: Acted, top: u16, c: u16, w: u64) -> Fetched
+    ensures { λ r. ⌜ Reads (Top top) (orderIn c (wordOf w)) (now (cells .entry)) a (r .go) (orderOf r) ⌝ }
 {
     let b = undo::refuse_if(a, w / cells::Q % 256 == 4, Refusal::WrongKind(c));
     let d = acts::not_own(b, c);
     let g = acts::designate(cells, d, top, (w / cells::Q % 256) as u8, (w / cells::SYMB % 65536) as u16);
-    let f = g.go;
+    let go = g.go;
     let x = g.x;
-    let r = operate(cells, log, order, marks, line, letters, counts, n, f, top, room, (w / cells::P % 256) as u8, x);
-    let go = r.go;
-    control::advance(cells, log, go, top, (w % 65536) as u16, r.moved);
-    Printed { go: go, len: r.len }
+    Fetched {
+        go: go,
+        p: (w / cells::P % 256) as u8,
+        x: x,
+        link: (w % 65536) as u16,
+    }
 }
 
-// Step 3, a process cell: its LINK reads as 0.
-fn direct(
-    cells: &mut [u64],
-    log: &mut [u64],
-    order: &mut [u16; 16384],
-    marks: &mut [u16; 16384],
-    line: &mut [u8; 32],
-    letters: &[u8; 23],
-    counts: &[u16; 23],
-    n: usize,
-    a: Acted,
-    top: u16,
-    room: usize,
-    c: u16,
-) -> Printed
-    requires { ⌜ Clean (now cells) (now order) (now marks) × Room (now log) (6 * length (now cells) + 74) × (length (now line) ≡ 32) ⌝ }
-    ensures { λ r. ⌜ Steps (Known (tableOf (now (letters .entry)) (now (counts .entry)) n) room top) (6 * length (now (cells .entry)) + 74) (direct c)
-        (now (cells .entry)) (now (log .entry)) a (now (cells .exit)) (now (log .exit)) (now (order .exit)) (now (marks .exit)) (now (line .exit)) (r .go) (r .len) tt ⌝ }
+// "fetch the word H1 names and its LINK"; "A process cell fetched directly does its process; its LINK reads as 0".
+fn fetch(cells: &[u64], a: Acted, top: u16, c: u16) -> Fetched
+    ensures { λ r. ⌜ Reads (Top top) (fetch c) (now (cells .entry)) a (r .go) (orderOf r) ⌝ }
 {
-    let x = Symbol {
-        tag: Symbol::REGIONAL,
-        num: c,
-    };
-    let r = execute(cells, log, order, marks, line, letters, counts, n, a, top, room, x);
-    let go = r.go;
-    control::advance(cells, log, go, top, 0, r.moved);
-    Printed { go: go, len: r.len }
+    let t = acts::touch(cells, a, c);
+    let b = t.go;
+    let go = undo::refuse_if(b, cells::is_integer(t.x), Refusal::WrongKind(c));
+    if cells::is_process(t.x) {
+        let x = Symbol {
+            tag: Symbol::REGIONAL,
+            num: c,
+        };
+        return Fetched {
+            go: go,
+            p: 0,
+            x: x,
+            link: 0,
+        };
+    }
+    order_in(cells, go, top, c, cells::word_in(t.x))
 }
 
-// Step 3.
+// Step 3. The answer is looked at before the operation, which is then the only one that may refuse.
 fn interpret(
     cells: &mut [u64],
     log: &mut [u64],
@@ -252,13 +239,24 @@ fn interpret(
     ensures { λ r. ⌜ Steps (Known (tableOf (now (letters .entry)) (now (counts .entry)) n) room top) (6 * length (now (cells .entry)) + 74) (interpret c)
         (now (cells .entry)) (now (log .entry)) a (now (cells .exit)) (now (log .exit)) (now (order .exit)) (now (marks .exit)) (now (line .exit)) (r .go) (r .len) tt ⌝ }
 {
-    let t = acts::touch(cells, a, c);
-    let b = t.go;
-    let go = undo::refuse_if(b, cells::is_integer(t.x), Refusal::WrongKind(c));
-    if cells::is_process(t.x) {
-        return direct(cells, log, order, marks, line, letters, counts, n, go, top, room, c);
+    let f = fetch(cells, a, top, c);
+    let go = f.go;
+    let x = f.x;
+    match go {
+        Acted::Done => {
+            let r = operate(cells, log, order, marks, line, letters, counts, n, top, room, f.p, x);
+            let done = r.go;
+            control::advance(cells, log, done, top, f.link, r.moved);
+            Printed {
+                go: done,
+                len: r.len,
+            }
+        }
+        Acted::Refused(e) => Printed {
+            go: Acted::Refused(e),
+            len: 0,
+        },
     }
-    obey(cells, log, order, marks, line, letters, counts, n, go, top, room, c, cells::word_in(t.x))
 }
 
 // Steps 2 and 3. A line is kept aside.

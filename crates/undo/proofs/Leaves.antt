@@ -69,6 +69,16 @@ pub when-is : {A : Type 0} {K : Rest → Type 0} {k : ℕ} {M : Act A} {s l s′
     → Did K k M s l b s′ l′ b v → Did K k M s l a s′ l′ a v
 when-is {K = K} {k = k} {M = M} {s = s} {l = l} {s′ = s′} {l′ = l′} {v = v} p d = subst (λ a. Did K k M s l a s′ l′ a v) (sym p) d
 
+-- a block after a refusal, whatever it is; a block from an answer that is known
+pub undone : {A : Type 0} {K : Rest → Type 0} {k : ℕ} {M : Act A} {s l : List ℕ} {a : Acted} {z : Refusal} {v : A} → a ≡ Refused z
+    → Did K k M s l a s l (Refused z) v
+unfolding left _>>_ ret refuse
+undone p = record { is = λ e h. record { is = rw p }; back = refl; count = omega arith; formed = λ h. h }
+
+pub from-is : {A : Type 0} {K : Rest → Type 0} {k : ℕ} {M : Act A} {s l s′ l′ : List ℕ} {a b r : Acted} {v : A} → a ≡ b
+    → Did K k M s l b s′ l′ r v → Did K k M s l a s′ l′ r v
+from-is {K = K} {k = k} {M = M} {s = s} {l = l} {s′ = s′} {l′ = l′} {r = r} {v = v} p d = subst (λ a. Did K k M s l a s′ l′ r v) (sym p) d
+
 -- parts of the state
 pub peeked : (s : List ℕ) (c : ℕ) {x : Cell} → cellIn s c ≡ x → Sees Always (peek c) s x
 unfolding cellIn peek
