@@ -58,7 +58,7 @@ module _ {A : Type 0} where
     reach-most k h d = record { is = d .is; back = d .back; count = omega (arith, d .count); formed = d .formed }
 
 -- two blocks that go on alike after m
-bind-alike : {A B : Type 0} (m : Act A) (f g : A → Act B) (s : State) → ((a : A) (t : State) → m s ≡ done a t → f a t ≡ g a t) → (m >>= f) s ≡ (m >>= g) s
+pub bind-alike : {A B : Type 0} (m : Act A) (f g : A → Act B) (s : State) → ((a : A) (t : State) → m s ≡ done a t → f a t ≡ g a t) → (m >>= f) s ≡ (m >>= g) s
 bind-alike {A} {B} m f g s h = go (m s) refl
   where
     go : (x : Res State Refusal A) → m s ≡ x → (m >>= f) s ≡ (m >>= g) s
@@ -81,9 +81,13 @@ module _ {A B : Type 0} (g : A → Act B) where
   rest (Refused z) Done M v t t₁ h = ap on h
   rest (Refused z) (Refused y) M v t t₁ h = ap on h
 
-yes-at : {A : Type 0} (m n : Act A) (t : State) {b : Bool} → b ≡ true → ifThen b m n t ≡ m t
+pub yes-at : {A : Type 0} (m n : Act A) (t : State) {b : Bool} → b ≡ true → ifThen b m n t ≡ m t
 unfolding ifThen
 yes-at m n t p = rw p
+
+pub no-at : {A : Type 0} (m n : Act A) (t : State) {b : Bool} → b ≡ false → ifThen b m n t ≡ n t
+unfolding ifThen
+no-at m n t p = rw p
 
 -- "J1 pop (0), execute it"
 j1-pops : (f : ℕ) (y : Symbol) (t : State) → y .num ≡ 22 → isProcess (cellAt (t .cells) 22) ≡ true → execute (suc f) y t ≡ popThen (λ z. execute f z) t

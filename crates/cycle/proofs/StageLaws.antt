@@ -1,6 +1,6 @@
 -- What an operation has done: the laws that join its lines.
 use Prim.Native.Nat.{ℕ, _+_, _<_, _≤_}
-use mathlib.Core.Path.{_≡_, refl, ap, sym}
+use mathlib.Core.Path.{_≡_, refl, ap, sym, subst}
 use mathlib.Core.Bool.{Bool, true, false}
 use mathlib.Core.List.{List}
 use native.Mathlib.Omega.{arith}
@@ -52,3 +52,9 @@ p-branches p x h =
 pub steps-no : {A : Type 0} {K : Rest → Type 0} {k : ℕ} {n : Act A} {s l s′ l′ order marks line : List ℕ} {a r : Acted} {len : ℕ} {v : A} (m : Act A)
     {b : Bool} → b ≡ false → Steps K k n s l a s′ l′ order marks line r len v → Steps K k (ifThen b m n) s l a s′ l′ order marks line r len v
 steps-no m p d = steps-alike (if-no m p) d
+
+-- from an answer that is known
+pub steps-from : {A : Type 0} {K : Rest → Type 0} {k : ℕ} {M : Act A} {s l s′ l′ order marks line : List ℕ} {a b r : Acted} {len : ℕ} {v : A} → a ≡ b
+    → Steps K k M s l b s′ l′ order marks line r len v → Steps K k M s l a s′ l′ order marks line r len v
+steps-from {K = K} {k} {M} {s} {l} {s′} {l′} {order} {marks} {line} {r = r} {len} {v} p d =
+    subst (λ a. Steps K k M s l a s′ l′ order marks line r len v) (sym p) d

@@ -1,3 +1,4 @@
 -- Laws of the plain actions.
 pub mod Settled
 pub mod GivesBack
+pub mod Walked

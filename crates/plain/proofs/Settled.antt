@@ -3,6 +3,7 @@ use Prim.Native.Nat.{ℕ, suc, _≤_}
 use mathlib.Core.Path.{_≡_, refl, sym, ap, _∙_}
 use mathlib.Core.Bool.{Bool, true, false}
 use mathlib.Core.List.{List, []}
+use mathlib.Core.Option.{none, some}
 use lib.ListN.{length, replicate}
 use lib.Dec.{leb}
 use borrow.Author.Tests.{leb-true}
@@ -25,40 +26,50 @@ use Rattle.sound.specs.declared.Regions.{Regions}
 use Rattle.sound.specs.Table.{regionsOf}
 use Rattle.sound.specs.Store.{stateWith, storeSound}
 use Rattle.sound.proofs.SoundLaws.{passed-formed, passed-sound, in-form}
-use Rattle.plain.specs.Numbers.{numbers, inNumbers, plainOn, Passed, settledAs}
+use Rattle.plain.specs.Numbers.{numbers, inNumbers, unfit, plainOn, Passed, settledAs}
+
+-- the size of a store is that of its numbers
+pub size-is : (s : List ℕ) {b : Bool} → sizeFits (length s) ≡ b → sizeFits (length (unpacked s)) ≡ b
+size-is s e = ap sizeFits (unpacked-length s) ∙ e
+
+-- 1 and 20, or neither
+module _ (r : Regions) (s : List ℕ) where
+  pub unfit-size : sizeFits (length s) ≡ false → unfit r s ≡ some BadSize
+  unfolding unfit
+  unfit-size e = rw (e, unfit)
+
+  pub unfit-unsound : sizeFits (length s) ≡ true → storeSound r s ≡ false → unfit r s ≡ some NotSound
+  unfolding unfit
+  unfit-unsound e f = rw (e, f, unfit)
+
+  pub fit : sizeFits (length s) ≡ true → storeSound r s ≡ true → unfit r s ≡ none
+  unfolding unfit
+  fit e f = rw (e, f, unfit)
 
 module _ (m : Act (Unit {0})) (r : Regions) (s : List ℕ) where
-  -- 1 and 20
-  pub plain-size : sizeFits (length s) ≡ false → numbers BadSize s ≡ plainOn m r s
+  pub plain-unfit : {a : RunAnswer} → unfit r s ≡ some a → numbers a s ≡ plainOn m r s
   unfolding plainOn
-  plain-size e = rw (e, plainOn)
-
-  pub plain-unsound : sizeFits (length s) ≡ true → storeSound r s ≡ false → numbers NotSound s ≡ plainOn m r s
-  unfolding plainOn
-  plain-unsound e f = rw (e, f, plainOn)
+  plain-unfit e = rw (e, plainOn)
 
   -- what `plainly` says of the store
   abbrev st : State
   st = stateWith r s [] 0
 
-  size-is : {b : Bool} → sizeFits (length s) ≡ b → sizeFits (length (unpacked s)) ≡ b
-  size-is e = ap sizeFits (unpacked-length s) ∙ e
-
   says-size : sizeFits (length s) ≡ false → plainly m st ≡ acted BadSize st
   unfolding plainly
-  says-size e = rw (size-is e, plainly)
+  says-size e = rw (size-is s e, plainly)
 
   says-unsound : sizeFits (length s) ≡ true → sound st ≡ false → plainly m st ≡ acted NotSound st
   unfolding plainly
-  says-unsound e f = rw (size-is e, f, plainly)
+  says-unsound e f = rw (size-is s e, f, plainly)
 
   says-acts : sizeFits (length s) ≡ true → sound st ≡ true → plainly m st ≡ afterAct st (m st)
   unfolding plainly
-  says-acts e f = rw (size-is e, f, plainly)
+  says-acts e f = rw (size-is s e, f, plainly)
 
   plain-acts : sizeFits (length s) ≡ true → storeSound r s ≡ true → inNumbers (plainly m st) ≡ plainOn m r s
   unfolding plainOn
-  plain-acts e f = rw (e, f, plainOn)
+  plain-acts e f = rw (fit r s e f, plainOn)
 
   module _ {top : ℕ} (p : Passed r s top) where
     done-or-not : inNumbers (afterAct st (m st)) ≡ plainOn m r s
@@ -86,14 +97,14 @@ module _ (m : Act (Unit {0})) (r : Regions) (s : List ℕ) where
 
     at-sound : sizeFits (length s) ≡ true → (b : Bool) → storeSound r s ≡ b → plainOn m r s ≡ inNumbers (plainly m st)
     at-sound e true g = sym (plain-acts e g)
-    at-sound e false g = sym (plain-unsound e g) ∙ kept NotSound ∙ ap inNumbers (sym (says-unsound e (sym (in-form r s [] 0 n f) ∙ g)))
+    at-sound e false g = sym (plain-unfit (unfit-unsound r s e g)) ∙ kept NotSound ∙ ap inNumbers (sym (says-unsound e (sym (in-form r s [] 0 n f) ∙ g)))
 
     pub plain-is : plainOn m r s ≡ inNumbers (plainly m st)
     plain-is = at-size (sizeFits (length s)) refl
       where
         at-size : (b : Bool) → sizeFits (length s) ≡ b → plainOn m r s ≡ inNumbers (plainly m st)
         at-size true e = at-sound e (storeSound r s) refl
-        at-size false e = sym (plain-size e) ∙ kept BadSize ∙ ap inNumbers (sym (says-size e))
+        at-size false e = sym (plain-unfit (unfit-size r s e)) ∙ kept BadSize ∙ ap inNumbers (sym (says-size e))
 
 -- "N from 256 to 16,384"
 pub size-range : (n : ℕ) → sizeFits n ≡ true → (256 ≤ n) × (n ≤ 16384)

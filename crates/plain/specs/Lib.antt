@@ -1,2 +1,3 @@
--- What a plain action makes of the lent numbers and a table.
+-- What a plain action and a walk make of the lent numbers and a table.
 pub mod Numbers
+pub mod Walks

@@ -3,6 +3,7 @@ use Prim.Native.Nat.{ℕ}
 use mathlib.Core.Path.{_≡_}
 use mathlib.Core.Bool.{true, false}
 use mathlib.Core.List.{List, []}
+use mathlib.Core.Option.{Option, none, some}
 use lib.ListN.{length}
 use Rattle.paper.specs.declared.RunAnswer.{RunAnswer}
 use Rattle.paper.specs.declared.RunAnswer.the-variants.{Finished, BadSize, NotSound, Refused as Stopped}
@@ -33,15 +34,19 @@ numbers a s = record { answer = a; cells = s }
 abbrev pub inNumbers : Plainly → Numbers
 inNumbers o = numbers (o .answer) (packed (o .state .cells))
 
--- 1: "N out of range"; 20: "store not sound"; else as `plainly`
-unfoldable pub plainOn : Act (Unit {0}) → Regions → List ℕ → Numbers
-plainOn m r s =
+-- 1: "N out of range"; 20: "store not sound"
+unfoldable pub unfit : Regions → List ℕ → Option RunAnswer
+unfit r s =
     elim (sizeFits (length s)) [
-      | false ↦ numbers BadSize s
-      | true ↦ elim (storeSound r s) [ false ↦ numbers NotSound s | true ↦ inNumbers (plainly m (stateWith r s [] 0)) ]
+      | false ↦ some BadSize
+      | true ↦ elim (storeSound r s) [ false ↦ some NotSound | true ↦ none ]
     ]
 
--- what is asked of a store: its regions end at `top`, or the answer is given whatever the action
+-- an unfit store is left as it is; else as `plainly`
+unfoldable pub plainOn : Act (Unit {0}) → Regions → List ℕ → Numbers
+plainOn m r s = elim (unfit r s) [ some a ↦ numbers a s | none ↦ inNumbers (plainly m (stateWith r s [] 0)) ]
+
+-- what is asked of a store: it is sound and its regions end at `top`, or the answer is given whatever the call
 pub record Passed (r : Regions) (s : List ℕ) (top : ℕ) : Type 0 where
   pub size : sizeFits (length s) ≡ true
   pub sound : storeSound r s ≡ true
@@ -49,7 +54,7 @@ pub record Passed (r : Regions) (s : List ℕ) (top : ℕ) : Type 0 where
 
 abbrev pub Asks : Regions → List ℕ → Asked → Type 0
 Asks r s (Top top) = Passed r s top
-Asks r s (Not a) = (m : Act (Unit {0})) → numbers a s ≡ plainOn m r s
+Asks r s (Not a) = unfit r s ≡ some a
 
 -- the end of an action: its writes stay, or are undone
 abbrev pub settledAs : Acted → List ℕ → List ℕ → Numbers

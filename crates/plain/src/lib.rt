@@ -1,16 +1,19 @@
-// Demand 3: preserve, copy and erase as "plain actions outside any cycle". Each asks of the store what a run asks, 1 and then 20;
-// refused, it leaves every number as it was.
+// Demand 3: preserve, copy and erase as "plain actions outside any cycle"; and the walk of a symbol. Each asks of the store what a run
+// asks, 1 and then 20; refused, it leaves every number as it was.
 ghost use mathlib.Core.Path.{_≡_};
-ghost use Prim.Native.Nat.{_+_, _*_};
-ghost use lib.ListN.{length};
-ghost use Rattle.paper.specs.Plain.{preserveH0};
+ghost use Prim.Native.Nat.{_+_, _*_, _≤_};
+ghost use mathlib.Core.List.{[]};
+ghost use lib.ListN.{length, take};
+ghost use Rattle.paper.specs.Plain.{preserveH0, walked};
 ghost use Rattle.paper.specs.Process.{J72, J74};
 ghost use Rattle.undo.specs.declared.Acted.the-variants.{Done};
 ghost use Rattle.undo.specs.Log.{Room};
 ghost use Rattle.undo.specs.Did.{Top, Did};
 ghost use Rattle.walk.specs.Walks.{Clean};
 ghost use Rattle.plain.specs.Numbers.{numbers, plainOn, Asks, settledAs, actionOf};
+ghost use Rattle.plain.specs.Walks.{padded, metOf, walkOn};
 use paper::RunAnswer;
+use paper::Symbol;
 use sound::Regions;
 use undo::Acted;
 
@@ -107,4 +110,60 @@ pub fn erase(cells: &mut [u64], regions: Regions) -> RunAnswer
     ensures { λ r. ⌜ numbers r (now (cells .exit)) ≡ plainOn J72 regions (now (cells .entry)) ⌝ }
 {
     plainly(cells, regions, Action::Erase)
+}
+
+// The cells of a walk: the first n, in walk order, and zeros.
+pub struct Met {
+    pub answer: RunAnswer,
+    pub n: usize,
+    pub cells: [u16; 16384],
+}
+
+fn none_met(a: RunAnswer) -> Met
+    ensures { λ r. ⌜ r ≡ metOf (walked a []) ⌝ }
+{
+    Met {
+        answer: a,
+        n: 0,
+        cells: [0; 16384],
+    }
+}
+
+// The first n cells of the order, and zeros.
+fn in_order(order: &[u16; 16384], n: usize) -> [u16; 16384]
+    requires { ⌜ (n ≤ 16384) × (length (now order) ≡ 16384) ⌝ }
+    ensures { λ r. ⌜ r ≡ padded (take n (now (order .entry))) ⌝ }
+{
+    let mut cells = [0u16; 16384];
+    let mut i = 0;
+    while i < n {
+        cells[i] = order[i];
+        i += 1;
+    }
+    cells
+}
+
+// The walk of the structure that x names; its tag plays no part.
+pub fn walk(cells: &[u64], regions: Regions, x: Symbol) -> Met
+    ensures { λ r. ⌜ r ≡ walkOn (x .num) regions (now (cells .entry)) ⌝ }
+{
+    let q = ask(cells, regions);
+    match q {
+        Asked::Not(a) => none_met(a),
+        Asked::Top(_) => {
+            let mut order = [0u16; 16384];
+            let mut marks = [0u16; 16384];
+            let w = walk::walk(cells, &mut order, &mut marks, Acted::Done, x.num);
+            let n = w.n;
+            let go = w.go;
+            match go {
+                Acted::Done => Met {
+                    answer: RunAnswer::Finished,
+                    n: n,
+                    cells: in_order(&order, n),
+                },
+                Acted::Refused(e) => none_met(RunAnswer::Refused(e)),
+            }
+        }
+    }
 }

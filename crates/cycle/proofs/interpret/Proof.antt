@@ -1,41 +1,46 @@
-use mathlib.Core.Path.{ap, sym, _∙_}
-use Rattle.paper.specs.Cycle.{obey, interpret}
-use Rattle.undo.proofs.Readings.{any-on, when}
-use Rattle.perform.proofs.StepLaws.{steps-alike, steps-test, steps-reads}
-use Rattle.cycle.proofs.StageLaws.{steps-yes, steps-no}
+use native.Mathlib.Omega.{arith}
+use Rattle.paper.specs.Cycle.{advance}
+use Rattle.undo.proofs.Leaves.{undone}
+use Rattle.undo.proofs.Readings.{under-on}
+use Rattle.perform.proofs.StepLaws.{tops, quietly, steps-most, steps-bind}
+use Rattle.cycle.proofs.OrderLaws.{fetch-steps}
+use Rattle.cycle.proofs.StageLaws.{steps-from}
 use borrow.Author.Needs.{needs}
 use Rattle.cycle.proofs.interpret.Statement.{statement}
 use Rattle.cycle.proofs.interpret.Tie as tie
 
+operate-requires : tie.Need-operate-requires
+operate-requires c κs = let p = c .before .before .before .before .before .before .before .before .before .before .before .before .pre in (p .0, record { fits = omega (arith, p .1 .fits) }, p .2)
+
+advance-requires : tie.Need-advance-requires
+advance-requires c κs =
+    let d = c .before .before .before .before .before .before .operate in
+    record { fits = omega (arith, d .kept .0, d .kept .1 .0, d .ensures .ran .count, c .before .before .before .before .before .before .before .before .before .before .before .before .before .before .before .before .before .before .before .pre .1 .fits) }
+
 returns : tie.Need-returns
-unfolding interpret
 returns c =
-    steps-reads _ (any-on (c .before .before .before .before .before .before .before .before .before .before .before .before .before .before .touch .ensures))
-    (steps-test (when _ (c .before .before .before .before .before .before .before .before .before .before .before .before .before .is-integer .ensures) (c .before .before .before .before .before .before .before .before .before .before .before .before .refuse-if .ensures))
-    (steps-yes _ (sym (c .before .before .before .before .before .before .before .before .before .before .before .is-process .ensures) ∙ c .before .before .before .before .before .before .before .before .before .before .if1 .taken) (c .before .before .before .before .direct .ensures)))
+    let d = c .before .before .before .before .before .before .before .before .before .before .before .operate in
+    let f = c .before .before .before .before .advance in
+    fetch-steps _ (under-on tops (c .before .before .before .before .before .before .before .before .before .before .before .before .before .before .before .before .before .before .before .before .fetch .ensures))
+    (steps-from (c .before .before .before .before .before .before .before .before .before .before .before .before .before .before .before .before .before .enum-told .given .1)
+    (steps-most _ (omega arith) (steps-bind (advance _) (f .kept .0) (d .ensures) (f .ensures))))
 
 returns-2 : tie.Need-returns-2
-unfolding interpret
 returns-2 c =
-    steps-reads _ (any-on (c .before .before .before .before .before .before .before .before .before .before .before .before .before .before .before .touch .ensures))
-    (steps-test (when _ (c .before .before .before .before .before .before .before .before .before .before .before .before .before .before .is-integer .ensures) (c .before .before .before .before .before .before .before .before .before .before .before .before .before .refuse-if .ensures))
-    (steps-no _ (sym (c .before .before .before .before .before .before .before .before .before .before .before .before .is-process .ensures) ∙ c .before .before .before .before .before .before .before .before .before .before .before .if1 .left)
-    (steps-alike (ap (obey _) (sym (c .before .before .before .before .before .word-in .ensures))) (c .before .before .before .before .obey .ensures))))
+    let p = c .before .before .before .before .before .before .before .before .pre in
+    fetch-steps _ (under-on tops (c .before .before .before .before .fetch .ensures)) (quietly (p .2) (p .0) (undone (c .before .go .given .1)))
 
 pub interpret-spec : {M : Type 1} → statement M
 interpret-spec =
     tie.close
     (tie.spec
     (λ c κs. search needs)
-    (λ c κs. search needs)
-    (λ c κs. search needs)
-    (λ c κs. search needs)
-    (λ c κs. search needs)
+    (λ c. search needs)
+    operate-requires
+    advance-requires
+    (λ c. search needs)
     (λ c. search needs)
     (λ c. search needs)
     returns
-    (λ c κs. search needs)
-    (λ c κs. search needs)
-    (λ c. search needs)
     (λ c. search needs)
     returns-2)

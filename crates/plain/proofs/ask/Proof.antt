@@ -4,19 +4,19 @@ use native.Mathlib.Omega.{arith}
 use lib.ListN.{length}
 use Rattle.sound.proofs.SoundLaws.{passed-end}
 use Rattle.plain.specs.Numbers.{Passed}
-use Rattle.plain.proofs.Settled.{plain-size, plain-unsound, size-range}
+use Rattle.plain.proofs.Settled.{unfit-size, unfit-unsound, size-range}
 use borrow.Author.Needs.{needs}
 use Rattle.plain.proofs.ask.Statement.{statement}
 use Rattle.plain.proofs.ask.Tie as tie
 
 returns : tie.Need-returns
-returns c = λ m. plain-size m _ _ (sym (c .before .size-fits .ensures) ∙ not-true _ (c .if1 .taken))
+returns c = unfit-size _ _ (sym (c .before .size-fits .ensures) ∙ not-true _ (c .if1 .taken))
 
 returns-2 : tie.Need-returns-2
 returns-2 c =
     let c₁ = c .before .before in
     let e = sym (c₁ .before .size-fits .ensures) ∙ not-false _ (c₁ .if1 .left) in
-    λ m. plain-unsound m _ _ e (sym (c .before .sound .ensures) ∙ not-true _ (c .if2 .taken))
+    unfit-unsound _ _ e (sym (c .before .sound .ensures) ∙ not-true _ (c .if2 .taken))
 
 -- the store passed
 abbrev start : tie.After-top → tie.Start

@@ -3,7 +3,7 @@ use mathlib.Core.Path.{refl, _∙_, subst}
 use native.Mathlib.Omega.{arith}
 use lib.ListN.{length, length-replicate}
 use Rattle.plain.specs.Numbers.{Asks, Passed, actionOf}
-use Rattle.plain.proofs.Settled.{plain-settled, size-range, empty}
+use Rattle.plain.proofs.Settled.{plain-unfit, plain-settled, size-range, empty}
 use borrow.Author.Needs.{needs}
 use Rattle.plain.proofs.plainly.Statement.{statement}
 use Rattle.plain.proofs.plainly.Tie as tie
@@ -12,7 +12,7 @@ returns : tie.Need-returns
 returns c =
     let c₁ = c .before .before .before in
     let p = c₁ .before .before .before .args in
-    subst (λ q. Asks (p .regions) (p .cells .now) q) (c .before .q .given .1) (c₁ .ask .ensures) (actionOf (p .what))
+    plain-unfit (actionOf (p .what)) _ _ (subst (λ q. Asks (p .regions) (p .cells .now) q) (c .before .q .given .1) (c₁ .ask .ensures))
 
 -- the store passed
 abbrev Sound : Type 0

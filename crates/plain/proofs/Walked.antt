@@ -1,0 +1,107 @@
+-- A walk by what its code did: the answers 1 and 20, the cells met, or a refusal.
+use Prim.Native.Nat.{ℕ, suc, _+_, _-_, _<_, _≤_}
+use mathlib.Core.Path.{_≡_, refl, sym, ap, _∙_, subst}
+use mathlib.Core.List.{List, [], _∷_, _++_, reverse-reverse}
+use mathlib.Core.Bool.{Bool, true, false}
+use mathlib.Core.Option.{some}
+use native.Mathlib.Numerals.{add-one}
+use native.Mathlib.Omega.{arith}
+use lib.ListN.{length, getD, take, set, replicate}
+use lib.Seq.{length-take-le, take-suc, append-snoc, set-at}
+use Rattle.paper.specs.declared.RunAnswer.{RunAnswer}
+use Rattle.paper.specs.declared.RunAnswer.the-variants.{Finished, Refused as Stopped}
+use Rattle.paper.specs.declared.Refusal.{Refusal}
+use Rattle.paper.specs.Cell.{State, sizeFits}
+use Rattle.paper.specs.Act.{_>>_, ret, refuse}
+use Rattle.paper.specs.Walk.{walkBack}
+use Rattle.paper.specs.Plain.{walked, afterWalk, walkCall}
+use Rattle.cells.specs.Pack.{AllFormed}
+use Rattle.undo.specs.declared.Acted.{Acted}
+use Rattle.undo.specs.declared.Acted.the-variants.{Done, Refused}
+use Rattle.undo.specs.Did.{left, Always, Reads}
+use Rattle.sound.specs.declared.Regions.{Regions}
+use Rattle.sound.specs.Table.{regionsOf}
+use Rattle.sound.specs.Store.{stateWith, storeSound}
+use Rattle.sound.proofs.SoundLaws.{passed-sound, in-form}
+use Rattle.walk.specs.declared.Walked.{Walked}
+use Rattle.walk.specs.Marks.{back}
+use Rattle.walk.specs.Walks.{Lists}
+use Rattle.plain.specs.declared.Met.{Met}
+use Rattle.plain.specs.Numbers.{unfit, Passed}
+use Rattle.plain.specs.Walks.{padded, metOf, walkOn}
+use Rattle.plain.proofs.Settled.{unfit-size, unfit-unsound, fit, size-is}
+
+-- the first i of the order, and zeros
+abbrev pub upTo : ℕ → List ℕ → List ℕ
+upTo i order = take i order ++ replicate (16384 - i) 0
+
+one-less : (i : ℕ) → i < 16384 → replicate {A = ℕ} (16384 - i) 0 ≡ 0 ∷ replicate (16384 - suc i) 0
+one-less i h = let e : 16384 - i ≡ suc (16384 - suc i) = omega arith in ap (λ k. replicate {A = ℕ} k 0) e
+
+module _ (order : List ℕ) (sized : length order ≡ 16384) where
+  -- one cell more
+  pub one-more : (i : ℕ) → i < 16384 → set (upTo i order) i (getD order i 0) ≡ upTo (i + 1) order
+  one-more i h =
+      rw add-one
+      (ap (λ l. set (take i order ++ l) i (getD order i 0)) (one-less i h)
+      ∙ set-at (take i order) 0 _ _ i (length-take-le i order (omega arith))
+      ∙ sym (append-snoc (take i order) _ _)
+      ∙ ap (λ l. l ++ replicate (16384 - suc i) 0) (sym (take-suc order i 0 (omega arith))))
+
+  -- all of them
+  pub all-met : (n : ℕ) → n ≤ 16384 → upTo n order ≡ padded (take n order)
+  all-met n h = ap (λ k. take n order ++ replicate (16384 - k) 0) (sym (length-take-le n order (omega arith)))
+
+module _ (c : ℕ) (r : Regions) (s : List ℕ) where
+  pub walk-unfit : {a : RunAnswer} → unfit r s ≡ some a → metOf (walked a []) ≡ walkOn c r s
+  unfolding walkOn
+  walk-unfit e = rw (e, walkOn)
+
+  abbrev st : State
+  st = stateWith r s [] 0
+
+  module _ {top : ℕ} (p : Passed r s top) where
+    says-walk : walkCall c st ≡ afterWalk (walkBack c st)
+    unfolding walkCall
+    says-walk = rw (size-is s (p .size), passed-sound r s [] 0 (p .sound), walkCall)
+
+    walks : metOf (afterWalk (walkBack c st)) ≡ walkOn c r s
+    unfolding walkOn
+    walks = ap metOf (sym says-walk) ∙ rw (fit r s (p .size) (p .sound), walkOn)
+
+    came : {a : Acted} {v : List ℕ} → Reads Always (walkBack c) s Done a v → walkBack c st ≡ (left a >> ret v) st
+    unfolding left _>>_ ret
+    came d = d .is (record { regions = regionsOf r; lines = []; room = 0 }) tt .is
+
+    module _ {order marks : List ℕ} {w : Walked} (l : Lists (walkBack c) s Done order marks w) where
+      read : {a : Acted} → w .go ≡ a → walkBack c st ≡ (left a >> ret (back (w .n) order)) st
+      read e = came (subst (λ a. Reads Always (walkBack c) s Done a (back (w .n) order)) e (l .says))
+
+      -- the cells met stand in the order, last first in the definition
+      pub walk-done : w .go ≡ Done → w .n ≤ 16384 → {cells : List ℕ} → cells ≡ padded (take (w .n) order)
+          → record { answer = Finished; n = w .n; cells = cells } ≡ walkOn c r s
+      unfolding left _>>_ ret afterWalk
+      walk-done e few f =
+          ap (λ xs. record { answer = Finished; n = w .n; cells = xs }) f
+          ∙ ap (λ n. record { answer = Finished; n = n; cells = padded (take (w .n) order) }) (sym (length-take-le (w .n) order (omega (arith, l .ordered .sized))))
+          ∙ ap (λ xs. metOf (walked Finished xs)) (sym (reverse-reverse (take (w .n) order)))
+          ∙ ap (λ x. metOf (afterWalk x)) (sym (read e)) ∙ walks
+
+      pub walk-refused : {q : Refusal} → w .go ≡ Refused q → metOf (walked (Stopped q) []) ≡ walkOn c r s
+      unfolding left _>>_ ret refuse afterWalk
+      walk-refused e = ap (λ x. metOf (afterWalk x)) (sym (read e)) ∙ walks
+
+  -- numbers and a table in form: `walkCall` itself, whatever the store
+  module _ (n : r .n ≤ 23) (f : AllFormed s) where
+    at-sound : sizeFits (length s) ≡ true → (b : Bool) → storeSound r s ≡ b → walkOn c r s ≡ metOf (walkCall c st)
+    unfolding walkOn walkCall
+    at-sound e true g = rw (fit r s e g, walkOn)
+    at-sound e false g = sym (walk-unfit (unfit-unsound r s e g)) ∙ rw (size-is s e, sym (in-form r s [] 0 n f), g, walkCall)
+
+    pub walk-is : walkOn c r s ≡ metOf (walkCall c st)
+    unfolding walkCall
+    walk-is = at-size (sizeFits (length s)) refl
+      where
+        at-size : (b : Bool) → sizeFits (length s) ≡ b → walkOn c r s ≡ metOf (walkCall c st)
+        at-size true e = at-sound e (storeSound r s) refl
+        at-size false e = sym (walk-unfit (unfit-size r s e)) ∙ rw (size-is s e, walkCall)

@@ -1,0 +1,29 @@
+use lib.Seq.{length-take-le}
+use borrow.Author.Needs.{needs}
+use Rattle.vectors.proofs.cases.read_walk.Statement.{statement}
+use Rattle.vectors.proofs.cases.read_walk.Tie as tie
+
+pub read-walk-spec : {M : Type 1} → statement M
+read-walk-spec =
+    tie.close
+    (tie.spec
+    (λ c κs. search needs)
+    (λ c κs. search needs)
+    (λ c κs. search needs)
+    (λ c. search needs)
+    (λ c κs. search needs)
+    (λ c κs. search needs)
+    (λ c. search needs)
+    (λ c κs. search needs)
+    (λ c. search needs)
+    (λ c. search needs)
+    (λ c. search needs)
+    (λ c. search needs)
+    (λ c. search (needs, length-take-le))
+    (λ c κs. search needs)
+    (λ c. search needs)
+    (λ c. search needs)
+    (λ c. search needs)
+    (λ c. search needs)
+    (λ c. search needs)
+    (λ c. search needs))

@@ -1,0 +1,104 @@
+// Numbers, region tables and cells from bytes; numbers are big-endian.
+ghost use Prim.Native.Nat.{_<_};
+use sound::Regions;
+
+// The next k bytes of the input, at the start of the buffer: whether there were as many.
+pub fn take(bytes: &mut [u8], k: usize) -> bool {
+    if k <= bytes.len() {
+        return io::read_full(0, &mut bytes[..k]) == k;
+    }
+    false
+}
+
+// Past the end 0.
+pub fn byte(b: &[u8], at: usize) -> u8 {
+    if at < b.len() {
+        return b[at];
+    }
+    0
+}
+
+fn wide(b: u8) -> usize
+    ensures { λ r. ⌜ r < 256 ⌝ }
+{
+    b as usize
+}
+
+// Two bytes from `at` on.
+fn two(b: &[u8], at: usize) -> usize
+    requires { ⌜ at < 1000000 ⌝ }
+    ensures { λ r. ⌜ r < 65536 ⌝ }
+{
+    wide(byte(b, at)) * 256 + wide(byte(b, at + 1))
+}
+
+pub fn pair(b: &[u8], at: u16) -> usize
+    ensures { λ r. ⌜ r < 65536 ⌝ }
+{
+    two(b, at as usize)
+}
+
+pub fn four(b: &[u8], at: u16) -> u32 {
+    let i = at as usize;
+    (two(b, i) * 65536 + two(b, i + 2)) as u32
+}
+
+// The eight bytes of cell c.
+fn cell(b: &[u8], c: u16) -> u64 {
+    let at = c as usize * 8;
+    let high = two(b, at) * 65536 + two(b, at + 2);
+    let low = two(b, at + 4) * 65536 + two(b, at + 6);
+    (high * 4294967296 + low) as u64
+}
+
+fn put(cells: &mut [u64], c: u16, x: u64) {
+    let i = c as usize;
+    if i < cells.len() {
+        cells[i] = x;
+    }
+}
+
+// The first n cells.
+fn decode(b: &[u8], cells: &mut [u64], n: u16) {
+    let mut c = 0;
+    while c < n {
+        put(cells, c, cell(b, c));
+        c += 1;
+    }
+}
+
+// The cells that come next: whether there were n.
+pub fn cells(bytes: &mut [u8], cells: &mut [u64], n: u16) -> bool {
+    let whole = take(bytes, n as usize * 8);
+    decode(bytes, cells, n);
+    whole
+}
+
+// A table that has its place for 23 regions filled, and says that it has n.
+fn table(b: &[u8], n: u8) -> Regions {
+    let mut r = Regions::none();
+    let mut i = 0;
+    while i < n {
+        let at = wide(i) * 3;
+        r = r.with(byte(b, at), two(b, at + 1) as u16);
+        i += 1;
+    }
+    r.n = wide(n);
+    r
+}
+
+// The regions that come next, and whether they were there.
+pub struct Listed {
+    pub whole: bool,
+    pub regions: Regions,
+}
+
+pub fn regions(bytes: &mut [u8]) -> Listed {
+    let counted = take(bytes, 1);
+    let n = byte(bytes, 0);
+    let whole = take(bytes, wide(n) * 3);
+    Listed {
+        whole: counted & whole,
+        regions: table(bytes, n),
+    }
+}
