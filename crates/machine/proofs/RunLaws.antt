@@ -40,6 +40,10 @@ module _ (t : State) (n : ℕ) where
   unfolding runFrom
   run-spent p = rw p
 
+  pub run-turns : isFinished t ≡ false → (u : State) → cycle t ≡ done tt u → (left : ℕ) → runFrom (suc left) n t ≡ runFrom left (suc n) u
+  unfolding runFrom turn onTurn afterCycle
+  run-turns p u q left = rw (p, turn, q)
+
   -- a cycle, while some of the budget is left
   module _ (budget : ℕ) (more : n < budget) (p : isFinished t ≡ false) where
     pub run-stops : (e : Refusal) → cycle t ≡ refused e → runFrom (budget - n) n t ≡ outcome (Refused e) n t
@@ -51,14 +55,10 @@ module _ (t : State) (n : ℕ) where
         go (suc k) h = rw (p, turn, q)
 
     pub run-goes : (u : State) → cycle t ≡ done tt u → runFrom (budget - n) n t ≡ runFrom (budget - (n + 1)) (n + 1) u
-    unfolding runFrom turn onTurn afterCycle
     run-goes u q =
         let left : budget - n ≡ suc (budget - (n + 1)) = omega (arith, more) in
         let next : suc n ≡ n + 1 = omega arith in
-        ap (λ i. runFrom i n t) left ∙ turned (budget - (n + 1)) ∙ ap (λ i. runFrom (budget - (n + 1)) i u) next
-      where
-        turned : (k : ℕ) → runFrom (suc k) n t ≡ runFrom k (suc n) u
-        turned k = rw (p, turn, q)
+        ap (λ i. runFrom i n t) left ∙ run-turns p u q (budget - (n + 1)) ∙ ap (λ i. runFrom (budget - (n + 1)) i u) next
 
 module _ (rs : List Region) (s out₀ : List ℕ) where
   -- the state that a run begins with

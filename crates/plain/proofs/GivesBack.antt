@@ -1,66 +1,37 @@
 -- Demand 3, carried to the calls: of every outcome that the contracts of preserve, copy and erase allow. Each statement can be read
 -- without its proof.
-use Prim.Native.Nat.{ℕ, zero, suc, _+_, _<_, _≤_}
+use Prim.Native.Nat.{ℕ, zero, suc, _+_, _≤_}
 use mathlib.Core.Path.{_≡_, refl, sym, ap, _∙_}
 use mathlib.Core.Bool.{Bool, true, false}
 use mathlib.Core.List.{List, [], _∷_, reverse}
 use native.Mathlib.Omega.{arith}
-use lib.ListN.{length, getD}
-use lib.IntN.{pos, negsuc}
+use lib.ListN.{length}
 use lib.Dec.{leb}
 use borrow.Author.Tests.{leb-true}
 use Rattle.paper.specs.declared.RunAnswer.{RunAnswer}
 use Rattle.paper.specs.declared.RunAnswer.the-variants.{Finished, BadSize, BudgetSpent, NotSound, Refused as Stopped}
-use Rattle.paper.specs.Cell.{Cell, free, word, integer, process, State, sizeFits}
+use Rattle.paper.specs.Cell.{State, sizeFits}
 use Rattle.paper.specs.declared.Refusal.{Refusal}
 use Rattle.paper.specs.Act.{Act, Res, done, refused}
 use Rattle.paper.specs.Walk.{walkBack}
 use Rattle.paper.specs.Process.{J72, J74}
 use Rattle.paper.specs.Plain.{acted, afterAct, plainly, preserveH0}
-use Rattle.paper.proofs.SoundStore.{Frame, at, CellOk, Sound, and-true, never}
+use Rattle.paper.proofs.SoundStore.{Frame, Sound, and-true, never}
 use Rattle.paper.proofs.SoundTest.{sound-from, sound-passes, size-passes}
 use Rattle.paper.proofs.ActLaws.{s-preserve}
 use Rattle.paper.proofs.ProcessLaws.{Kept, s-J74}
 use Rattle.paper.proofs.Handed.{when-done}
 use Rattle.paper.proofs.Demand1.{Runnable}
 use Rattle.paper.proofs.Demand3.{CanCopy, plainly-back, inH0, Erased, J72-frees}
-use Rattle.cells.specs.Pack.{CellFits, AllFormed, packOf, packed}
-use Rattle.cells.specs.Bridge.{unpacked}
-use Rattle.cells.proofs.Laws.{unpack-pack}
+use Rattle.cells.specs.Pack.{packed}
 use Rattle.cells.proofs.Store.{unpacked-length, packed-unpacked}
 use Rattle.sound.specs.declared.Regions.{Regions}
 use Rattle.sound.specs.Table.{regionsOf}
 use Rattle.sound.specs.Store.{stateWith, storeSound}
 use Rattle.sound.proofs.SoundLaws.{passed-formed, passed-sound}
+use Rattle.sound.proofs.FitLaws.{EachFits, sound-fits, unpacked-packed, packed-formed}
 use Rattle.plain.specs.Numbers.{Numbers, numbers, inNumbers, plainOn}
 use Rattle.plain.proofs.Settled.{plain-is}
-
--- what may stand in a cell of a sound store fits the fields of its number
-cell-fits : (F : Frame) (c : ℕ) (x : Cell) → CellOk F c x → CellFits x
-cell-fits F c (free l) k = omega (arith, k .link<, F .small)
-cell-fits F c (word w) k = record {
-  p = omega (arith, k .p≤7);
-  q = omega (arith, k .q≤4);
-  symb = omega (arith, k .symb<, F .small);
-  link = omega (arith, k .link<, F .small);
-}
-cell-fits F c (integer (pos n)) k = omega (arith, k .range)
-cell-fits F c (integer (negsuc n)) k = omega (arith, k .range)
-cell-fits F c process k = tt
-
-abbrev EachFits : List Cell → Type 0
-EachFits cs = (c : ℕ) → c < length cs → CellFits (getD cs c (free 0))
-
-later : (x : Cell) (cs : List Cell) → EachFits (x ∷ cs) → EachFits cs
-later x cs h c l = h (suc c) (omega (arith, l))
-
-unpacked-packed : (cs : List Cell) → EachFits cs → unpacked (packed cs) ≡ cs
-unpacked-packed [] h = refl
-unpacked-packed (x ∷ cs) h = rw (unpack-pack x (h 0 (omega arith)), unpacked-packed cs (later x cs h))
-
-packed-formed : (cs : List Cell) → EachFits cs → AllFormed (packed cs)
-packed-formed [] h = tt
-packed-formed (x ∷ cs) h = (ap packOf (unpack-pack x (h 0 (omega arith))), packed-formed cs (later x cs h))
 
 acts-on : (m : Act (Unit {0})) (t : State) → Runnable t → plainly m t ≡ afterAct t (m t)
 unfolding plainly
@@ -75,7 +46,7 @@ module _ (r : Regions) where
     nothing : frame .out ≡ 0
 
   plain-fits : {t : State} → Plain t → EachFits (t .cells)
-  plain-fits {t} p c l = cell-fits (p .frame) c (at t c) (p .isSound .each c (omega (arith, l, p .isSound .size)))
+  plain-fits {t} p = sound-fits (p .frame) t (p .isSound)
 
   -- it is the store of its numbers
   numbered : (t : State) → Plain t → stateWith r (packed (t .cells)) [] 0 ≡ t
