@@ -46,7 +46,8 @@ cycles-answer zero n t = go (isFinished t) refl
     go false e = rw e
 cycles-answer (suc left) n t = go (turn t) (λ u. cycles-answer left (suc n) u)
   where
-    go : (x : Turn) → ((u : State) → isBefore (runFrom left (suc n) u .answer) ≡ false) → isBefore (onTurn x (outcome Finished n t) (λ r. outcome (Refused r) n t) (λ u. runFrom left (suc n) u) .answer) ≡ false
+    go : (x : Turn) → ((u : State) → isBefore (runFrom left (suc n) u .answer) ≡ false)
+        → isBefore (onTurn x (outcome Finished n t) (λ r. outcome (Refused r) n t) (λ u. runFrom left (suc n) u) .answer) ≡ false
     go finishes k = refl
     go (stops e) k = refl
     go (continues u) k = k u
@@ -57,7 +58,8 @@ unfolding runFrom onTurn
 cycles-within zero n t = omega arith
 cycles-within (suc left) n t = go (turn t) (λ u. cycles-within left (suc n) u)
   where
-    go : (x : Turn) → ((u : State) → runFrom left (suc n) u .cycles ≤ suc n + left) → onTurn x (outcome Finished n t) (λ r. outcome (Refused r) n t) (λ u. runFrom left (suc n) u) .cycles ≤ n + suc left
+    go : (x : Turn) → ((u : State) → runFrom left (suc n) u .cycles ≤ suc n + left)
+        → onTurn x (outcome Finished n t) (λ r. outcome (Refused r) n t) (λ u. runFrom left (suc n) u) .cycles ≤ n + suc left
     go finishes k = omega arith
     go (stops e) k = omega arith
     go (continues u) k = omega (arith, k u)

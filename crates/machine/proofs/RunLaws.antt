@@ -139,7 +139,3 @@ module _ (r : Regions) (budget : ℕ) (s out : List ℕ) where
 
     pub run-cycles : budget ≤ 1000000 → storeSound r s ≡ true → cyclesOn (regionsOf r) budget s out ≡ runOn r budget s out
     run-cycles h f = ap (inNumbers out) (sym (says-goes (rw (passed-sound r s [] (length out) f) (le-leb budget 1000000 h)))) ∙ passes f
-
--- "N from 256 to 16,384"
-pub size-range : (n : ℕ) → sizeFits n ≡ true → (256 ≤ n) × (n ≤ 16384)
-size-range n e = let (a, b) = and-true (leb 256 n) (leb n 16384) e in (leb-true 256 n a, leb-true n 16384 b)

@@ -18,6 +18,16 @@ pub struct Ran {
     pub len: usize,
 }
 
+fn came_to(answer: RunAnswer, cycles: u32, len: usize) -> Ran
+    ensures { λ r. ⌜ r ≡ record { answer = answer; cycles = cycles; len = len } ⌝ }
+{
+    Ran {
+        answer: answer,
+        cycles: cycles,
+        len: len,
+    }
+}
+
 // Step 1: "If H1's SYMB is 0 and its LINK is 0, the run is finished"
 fn finished(cells: &[u64]) -> bool
     ensures { λ r. ⌜ r ≡ isFinishedIn (now (cells .entry)) ⌝ }
@@ -49,11 +59,7 @@ fn cycles(
     let mut at = 0;
     while !finished(cells) {
         if done == budget {
-            return Ran {
-                answer: RunAnswer::BudgetSpent,
-                cycles: done,
-                len: at,
-            };
+            return came_to(RunAnswer::BudgetSpent, done, at);
         }
         let c = cycle::cycle(
             cells,
@@ -73,31 +79,10 @@ fn cycles(
                 at = end;
                 done += 1;
             }
-            Cycled::Refused(e) => {
-                return Ran {
-                    answer: RunAnswer::Refused(e),
-                    cycles: done,
-                    len: at,
-                };
-            }
+            Cycled::Refused(e) => return came_to(RunAnswer::Refused(e), done, at),
         }
     }
-    Ran {
-        answer: RunAnswer::Finished,
-        cycles: done,
-        len: at,
-    }
-}
-
-// An answer before any cycle.
-fn untouched(answer: RunAnswer) -> Ran
-    ensures { λ r. ⌜ r ≡ record { answer = answer; cycles = 0; len = 0 } ⌝ }
-{
-    Ran {
-        answer: answer,
-        cycles: 0,
-        len: 0,
-    }
+    came_to(RunAnswer::Finished, done, at)
 }
 
 // Cells and a table as a load leaves them, or any others; lines go to `out`, whose length is the room.
@@ -105,13 +90,13 @@ pub fn run(cells: &mut [u64], regions: Regions, budget: u32, out: &mut [u8]) -> 
     ensures { λ r. ⌜ numbers r (now (cells .exit)) (now (out .exit)) ≡ runOn regions budget (now (cells .entry)) (now (out .entry)) ⌝ }
 {
     if !sound::size_fits(cells.len()) {
-        return untouched(RunAnswer::BadSize);
+        return came_to(RunAnswer::BadSize, 0, 0);
     }
     if budget > 1000000 {
-        return untouched(RunAnswer::NotSound);
+        return came_to(RunAnswer::NotSound, 0, 0);
     }
     if !sound::sound(cells, regions) {
-        return untouched(RunAnswer::NotSound);
+        return came_to(RunAnswer::NotSound, 0, 0);
     }
     let top = regions.top() as u16;
     let letters = regions.letters;

@@ -204,5 +204,6 @@ unfolding cellOpen stepOpen peek put reserved nameOf own sized
 primOpen = tt
 
 unfoldable pub actOpen : Unit {0}
-unfolding touch wordAt integerAt notOwn named readAt takeAs release linkBelow preserve hasBelow pullUp restore store ownPreserve ownRestore ownStore push pop below pops gives symbolIn symbolInThat designate
+unfolding touch wordAt integerAt notOwn named readAt takeAs release linkBelow preserve hasBelow pullUp restore store ownPreserve ownRestore
+    ownStore push pop below pops gives symbolIn symbolInThat designate
 actOpen = tt

@@ -194,5 +194,7 @@ table =
 
 -- every case of the table comes to what it says
 pub bench : T (allHold table)
-unfolding primOpen actOpen printOpen soundOpen recordOpen deckOpen walkOpen processOpen cycleOpen runOpen plainOpen factHolds factsHold sameBytes ranAs loadedAs holds allHold symbol join whole restoreW0 freeW0 freeTwice copying fiveCells namedTwice withInteger eraseNew table
+unfolding primOpen actOpen printOpen soundOpen recordOpen deckOpen walkOpen processOpen cycleOpen runOpen plainOpen factHolds factsHold
+    sameBytes ranAs loadedAs holds allHold symbol join whole restoreW0 freeW0 freeTwice copying fiveCells namedTwice withInteger eraseNew
+    table
 bench = tt

@@ -332,5 +332,6 @@ unfoldable pub perform : ℕ → Act (Unit {0})
 perform n = performIn listed n
 
 unfoldable pub processOpen : Unit {0}
-unfolding setH5 tests J2 J5 J6 J9 eachW moveTo J2n J3n J4n J5n atEnd dropEnd moveOn nextCell J60 J63 J64 deleteLast deleteNext J68 erases J71 J72 J74 J90 putInteger combines compares compares0 J120 changes J124 testsTag J131 retags J152 J153 listed performIn perform
+unfolding setH5 tests J2 J5 J6 J9 eachW moveTo J2n J3n J4n J5n atEnd dropEnd moveOn nextCell J60 J63 J64 deleteLast deleteNext J68 erases
+    J71 J72 J74 J90 putInteger combines compares compares0 J120 changes J124 testsTag J131 retags J152 J153 listed performIn perform
 processOpen = tt

@@ -106,10 +106,6 @@ module _ (m : Act (Unit {0})) (r : Regions) (s : List ℕ) where
         at-size true e = at-sound e (storeSound r s) refl
         at-size false e = sym (plain-unfit (unfit-size r s e)) ∙ kept BadSize ∙ ap inNumbers (sym (says-size e))
 
--- "N from 256 to 16,384"
-pub size-range : (n : ℕ) → sizeFits n ≡ true → (256 ≤ n) × (n ≤ 16384)
-size-range n e = let (a, b) = and-true (leb 256 n) (leb n 16384) e in (leb-true 256 n a, leb-true n 16384 b)
-
 -- a new log holds no writes
 pub empty : (n : ℕ) → used (replicate (suc n) 0) ≡ 0
 empty n = refl

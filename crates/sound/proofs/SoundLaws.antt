@@ -4,10 +4,10 @@ use mathlib.Core.Bool.{Bool, true, false, cond, _&&_, and-assoc, and-false}
 use mathlib.Core.List.{List, [], _∷_}
 use mathlib.Core.Path.{_≡_, refl, ap, sym, _∙_}
 use native.Mathlib.Omega.{arith}
-use borrow.Author.Tests.{eq-eqb, eqb-true, le-leb}
+use borrow.Author.Tests.{eq-eqb, eqb-true, leb-true, le-leb}
 use lib.Dec.{leb, eqb}
 use lib.ListN.{length}
-use Rattle.paper.specs.Cell.{endOfRegions}
+use Rattle.paper.specs.Cell.{endOfRegions, sizeFits}
 use Rattle.paper.specs.Sound.{cellsSound, freeCount, freeList, freeStart, isZeros, regionsSound, sound}
 use Rattle.paper.proofs.SoundStore.{and-true as both}
 use Rattle.paper.proofs.SoundTest.{end-at-most}
@@ -108,3 +108,7 @@ passed-end r s h e =
 pub in-form : (r : Regions) (s lines : List ℕ) (room : ℕ) → r .n ≤ 23 → AllFormed s → storeSound r s ≡ sound (stateWith r s lines room)
 unfolding storeSound sound
 in-form r s lines room n f = rw (le-leb (r .n) 23 n, all-formed s f)
+
+-- "N from 256 to 16,384"
+pub size-range : (n : ℕ) → sizeFits n ≡ true → (256 ≤ n) × (n ≤ 16384)
+size-range n e = let (a, b) = both (leb 256 n) (leb n 16384) e in (leb-true 256 n a, leb-true n 16384 b)

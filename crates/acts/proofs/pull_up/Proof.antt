@@ -9,19 +9,34 @@ use Rattle.acts.proofs.pull_up.Tie as tie
 returns : tie.Need-returns
 unfolding pullUp
 returns c =
-    reads _ (any-on (c .before .before .before .before .before .before .before .before .before .before .before .before .before .before .before .before .before .before .before .before .before .word-at .ensures))
-    (test (when _ (c .before .before .before .before .before .before .before .before .before .before .before .before .before .before .before .before .before .before .before .before .q1-for-hw .ensures) (c .before .before .before .before .before .before .before .before .before .before .before .before .before .before .before .before .before .before .before .refuse-if .ensures))
-    (sees _ (reserving _ _ _ (c .before .before .before .before .before .before .before .before .before .before .before .before .before .before .before .before .before .before .reserved .ensures))
-    (test (c .before .before .before .before .before .before .before .before .before .before .before .before .before .before .before .before .before .refuse-if2 .ensures)
-    (from-is (c .before .before .before .before .before .before .before .before .before .before .before .before .before .before .before .enum-told .given .1)
-    (then (any (puts _ (c .before .before .before .before .before .before .before .before .before .before .before .before .of-word .ensures) (c .before .before .before .before .before .before .before .before .before .before .before .put .ensures))) (any (c .before .before .before .before .release .ensures)))))))
+    let c₁ = c .before .before .before .before in
+    let c₂ = c₁ .before .before .before .before .before .before .before in
+    let c₃ = c₂ .before in
+    let c₄ = c₃ .before .before .before in
+    let c₅ = c₄ .before .before in
+    let c₆ = c₅ .before in
+    let c₇ = c₆ .before in
+    let c₈ = c₇ .before in
+    let c₉ = c₈ .before in
+    reads _ (any-on (c₉ .word-at .ensures))
+    (test (when _ (c₈ .q1-for-hw .ensures) (c₇ .refuse-if .ensures))
+    (sees _ (reserving _ _ _ (c₆ .reserved .ensures))
+    (test (c₅ .refuse-if2 .ensures)
+    (from-is (c₄ .enum-told .given .1)
+    (then (any (puts _ (c₃ .of-word .ensures) (c₂ .put .ensures))) (any (c₁ .release .ensures)))))))
 
 returns-2 : tie.Need-returns-2
 unfolding pullUp
 returns-2 c =
-    reads _ (any-on (c .before .before .before .before .before .before .before .word-at .ensures))
-    (test (when _ (c .before .before .before .before .before .before .q1-for-hw .ensures) (c .before .before .before .before .before .refuse-if .ensures))
-    (sees _ (reserving _ _ _ (c .before .before .before .before .reserved .ensures)) (test (c .before .before .before .refuse-if2 .ensures) (undone (c .before .go .given .1)))))
+    let c₁ = c .before in
+    let c₂ = c₁ .before .before in
+    let c₃ = c₂ .before in
+    let c₄ = c₃ .before in
+    let c₅ = c₄ .before in
+    let c₆ = c₅ .before in
+    reads _ (any-on (c₆ .word-at .ensures))
+    (test (when _ (c₅ .q1-for-hw .ensures) (c₄ .refuse-if .ensures))
+    (sees _ (reserving _ _ _ (c₃ .reserved .ensures)) (test (c₂ .refuse-if2 .ensures) (undone (c₁ .go .given .1)))))
 
 pub pull-up-spec : {M : Type 1} → statement M
 pull-up-spec =

@@ -8,12 +8,19 @@ use Rattle.acts.proofs.store.Tie as tie
 returns : tie.Need-returns
 unfolding store
 returns c =
-    reads _ (c .before .before .before .before .before .before .before .before .before .before .named .ensures)
-    (from-is (c .before .before .before .before .before .before .before .before .enum-told .given .1) (puts _ (c .before .before .before .before .before .before .before .with-symbol .ensures) (c .before .before .before .before .put .ensures)))
+    let c₁ = c .before .before .before .before in
+    let c₂ = c₁ .before .before .before in
+    let c₃ = c₂ .before in
+    let c₄ = c₃ .before .before in
+    reads _ (c₄ .named .ensures)
+    (from-is (c₃ .enum-told .given .1) (puts _ (c₂ .with-symbol .ensures) (c₁ .put .ensures)))
 
 returns-2 : tie.Need-returns-2
 unfolding store
-returns-2 c = reads _ (c .before .before .before .named .ensures) (undone (c .before .go .given .1))
+returns-2 c =
+    let c₁ = c .before in
+    let c₂ = c₁ .before .before in
+    reads _ (c₂ .named .ensures) (undone (c₁ .go .given .1))
 
 pub store-spec : {M : Type 1} → statement M
 store-spec =

@@ -11,16 +11,23 @@ use Rattle.cycle.proofs.attempt.Tie as tie
 returns : tie.Need-returns
 unfolding cycle
 returns c =
-    let p = c .before .before .before .before .before .before .before .before .before .before .before .before .pre in
-    let d = c .before .before .before .before .ascend in
-    steps-sees _ (any-sees (c .before .before .before .before .before .before .before .before .own .ensures))
-    (steps-yes _ (eq-eqb _ _ (c .before .before .before .before .before .before .before .if1 .taken)) (steps-most _ (omega arith) (quietly (p .2) (clean-on (d .kept .0) (p .0)) (d .ensures))))
+    let c₁ = c .before .before .before .before in
+    let c₂ = c₁ .before .before .before in
+    let c₃ = c₂ .before in
+    let c₄ = c₃ .before .before .before .before in
+    let p = c₄ .pre in
+    let d = c₁ .ascend in
+    steps-sees _ (any-sees (c₃ .own .ensures))
+    (steps-yes _ (eq-eqb _ _ (c₂ .if1 .taken)) (steps-most _ (omega arith) (quietly (p .2) (clean-on (d .kept .0) (p .0)) (d .ensures))))
 
 returns-2 : tie.Need-returns-2
 unfolding cycle
 returns-2 c =
-    steps-sees _ (any-sees (c .before .before .before .before .before .before .before .before .before .before .before .own .ensures))
-    (steps-no _ (ne-eqb _ _ (c .before .before .before .before .before .before .before .before .before .before .if1 .left)) (c .before .before .before .before .interpret .ensures))
+    let c₁ = c .before .before .before .before in
+    let c₂ = c₁ .before .before .before .before .before .before in
+    let c₃ = c₂ .before in
+    steps-sees _ (any-sees (c₃ .own .ensures))
+    (steps-no _ (ne-eqb _ _ (c₂ .if1 .left)) (c₁ .interpret .ensures))
 
 pub attempt-spec : {M : Type 1} → statement M
 attempt-spec =

@@ -8,16 +8,21 @@ use Rattle.cycle.proofs.cycle.Tie as tie
 
 attempt-requires : tie.Need-attempt-requires
 attempt-requires c κs =
-    let p = c .before .before .before .before .before .before .before .before .before .before .before .before .pre in
-    let f = c .before .before .before .before .before .before .before .fresh in
+    let c₁ = c .before .before .before .before .before .before .before in
+    let c₂ = c₁ .before .before .before .before .before in
+    let p = c₂ .pre in
+    let f = c₁ .fresh in
     (p .0 .clean, record { fits = omega (arith, f .ensures, f .kept .0, p .0 .room) }, p .0 .sized)
 
 settle-requires : tie.Need-settle-requires
 settle-requires c κs =
-    let a = c .before .before .before .before .before .before .before .before .before .before .before .before .before .before .before .before .before .before .before .before .before .args in
-    let p = c .before .before .before .before .before .before .before .before .before .before .before .before .before .before .before .before .before .before .before .before .before .pre in
-    let f = c .before .before .before .before .before .before .before .before .before .before .before .before .before .before .before .before .fresh in
-    let d = c .before .before .before .before .before .before .before .before .attempt in (
+    let c₁ = c .before .before .before .before .before .before .before .before in
+    let c₂ = c₁ .before .before .before .before .before .before .before .before in
+    let c₃ = c₂ .before .before .before .before .before in
+    let a = c₃ .args in
+    let p = c₃ .pre in
+    let f = c₂ .fresh in
+    let d = c₁ .attempt in (
       record { fits = omega (arith, f .ensures, f .kept .0, p .0 .room, d .kept .0, d .kept .1 .0, d .ensures .ran .count) },
       d .ensures .kept .sized,
       d .ensures .kept .within,
@@ -26,11 +31,15 @@ settle-requires c κs =
 
 returns : tie.Need-returns
 returns c =
-    let a = c .before .before .before .before .before .before .before .before .before .before .before .before .before .before .before .before .before .before .before .before .before .before .before .before .before .before .args in
-    let p = c .before .before .before .before .before .before .before .before .before .before .before .before .before .before .before .before .before .before .before .before .before .before .before .before .before .before .pre in
-    let f = c .before .before .before .before .before .before .before .before .before .before .before .before .before .before .before .before .before .before .before .before .before .fresh in
-    let d = c .before .before .before .before .before .before .before .before .before .before .before .before .before .attempt in
-    let e = c .before .before .before .before .settle in
+    let c₁ = c .before .before .before .before in
+    let c₂ = c₁ .before .before .before .before .before .before .before .before .before in
+    let c₃ = c₂ .before .before .before .before .before .before .before .before in
+    let c₄ = c₃ .before .before .before .before .before in
+    let a = c₄ .args in
+    let p = c₄ .pre in
+    let f = c₃ .fresh in
+    let d = c₂ .attempt in
+    let e = c₁ .settle in
     record {
       came = came _ _ (a .at) (a .out .now) (p .2) (p .1) _ _ _ (f .ensures) _ (d .ensures) (e .ensures);
       ready = record {

@@ -13,33 +13,49 @@ use Rattle.cycle.proofs.execute.Tie as tie
 
 perform-requires : tie.Need-perform-requires
 perform-requires c κs =
-    let p = c .before .before .before .before .before .before .before .before .before .before .before .before .before .before .before .before .before .before .before .before .before .pre in
-    let d = c .before .before .before .before .before .before .before .before .before .before .before .before .before .before .before .before .past-j1 in
+    let c₁ = c .before .before .before .before .before .before .before .before .before .before .before .before .before .before .before .before in
+    let c₂ = c₁ .before .before .before .before .before in
+    let p = c₂ .pre in
+    let d = c₁ .past-j1 in
     (clean-on (d .kept .0) (p .0), record { fits = omega (arith, d .kept .0, d .kept .1 .0, d .ensures .count, p .1 .fits) }, p .2)
 
 returns : tie.Need-returns
 unfolding atOnce
 returns c =
-    let d = c .before .before .before .before .before .before .before .before .before .before .before .before .before .before .before .before .before .before .before .before .before .past-j1 in
+    let c₁ = c .before .before .before .before in
+    let c₂ = c₁ .before .before .before .before .before .before in
+    let c₃ = c₂ .before in
+    let c₄ = c₃ .before in
+    let c₅ = c₄ .before in
+    let c₆ = c₅ .before in
+    let c₇ = c₆ .before .before .before .before .before .before .before in
+    let d = c₇ .past-j1 in
     steps-most _ (omega (arith, d .kept .0))
     (reach-steps (d .ensures)
-    (steps-reads _ (any-on (c .before .before .before .before .before .before .before .before .before .before .before .before .before .before .touch .ensures))
-    (steps-test (c .before .before .before .before .before .before .before .before .before .before .before .before .before .not-own .ensures)
-    (steps-yes _ (sym (c .before .before .before .before .before .before .before .before .before .before .before .before .is-process .ensures) ∙ c .before .before .before .before .before .before .before .before .before .before .before .if1 .taken)
-    (steps-after (steps-alike (ap perform (c .before .before .before .before .before .before .before .before .before .before .process-number .ensures)) (c .before .before .before .before .perform .ensures)))))))
+    (steps-reads _ (any-on (c₆ .touch .ensures))
+    (steps-test (c₅ .not-own .ensures)
+    (steps-yes _ (sym (c₄ .is-process .ensures) ∙ c₃ .if1 .taken)
+    (steps-after (steps-alike (ap perform (c₂ .process-number .ensures)) (c₁ .perform .ensures)))))))
 
 returns-2 : tie.Need-returns-2
 unfolding atOnce
 returns-2 c =
-    let d = c .before .before .before .before .before .before .before .before .before .before .before .before .before .before .before .before .before .past-j1 in
-    let f = c .before .before .before .before .descend in
-    let p = c .before .before .before .before .before .before .before .before .before .before .before .before .before .before .before .before .before .before .before .before .before .before .pre in
+    let c₁ = c .before .before .before .before in
+    let c₂ = c₁ .before .before .before in
+    let c₃ = c₂ .before in
+    let c₄ = c₃ .before in
+    let c₅ = c₄ .before in
+    let c₆ = c₅ .before .before .before .before .before .before .before in
+    let c₇ = c₆ .before .before .before .before .before in
+    let d = c₆ .past-j1 in
+    let f = c₁ .descend in
+    let p = c₇ .pre in
     steps-most _ (omega arith)
     (reach-steps (d .ensures)
     (quietly (p .2) (clean-on (f .kept .0 ∙ d .kept .0) (p .0))
-    (reads _ (any-on (c .before .before .before .before .before .before .before .before .before .before .touch .ensures))
-    (test (c .before .before .before .before .before .before .before .before .before .not-own .ensures)
-    (else _ (sym (c .before .before .before .before .before .before .before .before .is-process .ensures) ∙ c .before .before .before .before .before .before .before .if1 .left) (any (f .ensures)))))))
+    (reads _ (any-on (c₅ .touch .ensures))
+    (test (c₄ .not-own .ensures)
+    (else _ (sym (c₃ .is-process .ensures) ∙ c₂ .if1 .left) (any (f .ensures)))))))
 
 pub execute-spec : {M : Type 1} → statement M
 execute-spec =

@@ -8,17 +8,27 @@ use Rattle.cycle.proofs.fetch.Tie as tie
 returns : tie.Need-returns
 unfolding fetch
 returns c =
-    reads-on _ (any-on (c .before .before .before .before .touch .ensures))
-    (test-on (when _ (c .before .before .before .is-integer .ensures) (c .before .before .refuse-if .ensures))
-    (yes-on _ (sym (c .before .is-process .ensures) ∙ c .if1 .taken) give-on))
+    let c₁ = c .before in
+    let c₂ = c₁ .before in
+    let c₃ = c₂ .before in
+    let c₄ = c₃ .before in
+    reads-on _ (any-on (c₄ .touch .ensures))
+    (test-on (when _ (c₃ .is-integer .ensures) (c₂ .refuse-if .ensures))
+    (yes-on _ (sym (c₁ .is-process .ensures) ∙ c .if1 .taken) give-on))
 
 returns-2 : tie.Need-returns-2
 unfolding fetch
 returns-2 c =
-    reads-on _ (any-on (c .before .before .before .before .before .before .touch .ensures))
-    (test-on (when _ (c .before .before .before .before .before .is-integer .ensures) (c .before .before .before .before .refuse-if .ensures))
-    (else-on _ (sym (c .before .before .before .is-process .ensures) ∙ c .before .before .if1 .left)
-    (alike-on (ap (orderIn _) (sym (c .before .word-in .ensures))) (c .order-in .ensures))))
+    let c₁ = c .before in
+    let c₂ = c₁ .before in
+    let c₃ = c₂ .before in
+    let c₄ = c₃ .before in
+    let c₅ = c₄ .before in
+    let c₆ = c₅ .before in
+    reads-on _ (any-on (c₆ .touch .ensures))
+    (test-on (when _ (c₅ .is-integer .ensures) (c₄ .refuse-if .ensures))
+    (else-on _ (sym (c₃ .is-process .ensures) ∙ c₂ .if1 .left)
+    (alike-on (ap (orderIn _) (sym (c₁ .word-in .ensures))) (c .order-in .ensures))))
 
 pub fetch-spec : {M : Type 1} → statement M
 fetch-spec =

@@ -10,25 +10,36 @@ use Rattle.cycle.proofs.interpret.Statement.{statement}
 use Rattle.cycle.proofs.interpret.Tie as tie
 
 operate-requires : tie.Need-operate-requires
-operate-requires c κs = let p = c .before .before .before .before .before .before .before .before .before .before .before .before .pre in (p .0, record { fits = omega (arith, p .1 .fits) }, p .2)
+operate-requires c κs =
+    let c₁ = c .before .before .before .before .before .before .before .before .before .before .before .before in
+    let p = c₁ .pre in (p .0, record { fits = omega (arith, p .1 .fits) }, p .2)
 
 advance-requires : tie.Need-advance-requires
 advance-requires c κs =
-    let d = c .before .before .before .before .before .before .operate in
-    record { fits = omega (arith, d .kept .0, d .kept .1 .0, d .ensures .ran .count, c .before .before .before .before .before .before .before .before .before .before .before .before .before .before .before .before .before .before .before .pre .1 .fits) }
+    let c₁ = c .before .before .before .before .before .before in
+    let c₂ = c₁ .before .before .before .before .before .before .before .before .before .before .before .before .before in
+    let d = c₁ .operate in
+    record { fits = omega (arith, d .kept .0, d .kept .1 .0, d .ensures .ran .count, c₂ .pre .1 .fits) }
 
 returns : tie.Need-returns
 returns c =
-    let d = c .before .before .before .before .before .before .before .before .before .before .before .operate in
-    let f = c .before .before .before .before .advance in
-    fetch-steps _ (under-on tops (c .before .before .before .before .before .before .before .before .before .before .before .before .before .before .before .before .before .before .before .before .fetch .ensures))
-    (steps-from (c .before .before .before .before .before .before .before .before .before .before .before .before .before .before .before .before .before .enum-told .given .1)
+    let c₁ = c .before .before .before .before in
+    let c₂ = c₁ .before .before .before .before .before .before .before in
+    let c₃ = c₂ .before .before .before .before .before .before in
+    let c₄ = c₃ .before .before .before in
+    let d = c₂ .operate in
+    let f = c₁ .advance in
+    fetch-steps _ (under-on tops (c₄ .fetch .ensures))
+    (steps-from (c₃ .enum-told .given .1)
     (steps-most _ (omega arith) (steps-bind (advance _) (f .kept .0) (d .ensures) (f .ensures))))
 
 returns-2 : tie.Need-returns-2
 returns-2 c =
-    let p = c .before .before .before .before .before .before .before .before .pre in
-    fetch-steps _ (under-on tops (c .before .before .before .before .fetch .ensures)) (quietly (p .2) (p .0) (undone (c .before .go .given .1)))
+    let c₁ = c .before in
+    let c₂ = c₁ .before .before .before in
+    let c₃ = c₂ .before .before .before .before in
+    let p = c₃ .pre in
+    fetch-steps _ (under-on tops (c₂ .fetch .ensures)) (quietly (p .2) (p .0) (undone (c₁ .go .given .1)))
 
 pub interpret-spec : {M : Type 1} → statement M
 interpret-spec =

@@ -8,7 +8,8 @@ use Rattle.cycle.proofs.is_j1.Tie as tie
 
 returns : tie.Need-returns
 returns c =
-    let p = c .before .before .args in
+    let c₁ = c .before .before in
+    let p = c₁ .args in
     j1-other (p .cells .now) (p .a) (p .c) (ne-eqb _ _ (c .if1 .taken))
 
 returns-2 : tie.Need-returns-2
@@ -20,7 +21,8 @@ returns-2 c =
 
 returns-3 : tie.Need-returns-3
 returns-3 c =
-    let p = c .before .before .before .before .args in
+    let c₁ = c .before .before .before .before in
+    let p = c₁ .args in
     j1-refused (p .cells .now) (p .c) (c .enum-told2 .given .1)
 
 pub is-j1-spec : {M : Type 1} → statement M

@@ -10,21 +10,29 @@ use Rattle.cycle.proofs.operate.Tie as tie
 
 returns : tie.Need-returns
 unfolding operate choose
-returns c = steps-of-p _ 0 _ (c .before .before .before .before .before .before .before .before .before .before .match .keys1) (c .before .before .before .before .execute .ensures)
+returns c =
+    let c₁ = c .before .before .before .before in
+    let c₂ = c₁ .before .before .before .before .before .before in
+    steps-of-p _ 0 _ (c₂ .match .keys1) (c₁ .execute .ensures)
 
 returns-2 : tie.Need-returns-2
 returns-2 c =
-    let p = c .before .before .before .before .before .before .before .before .before .before .before .pre in
-    let d = c .before .before .before .before .on-symbol in
+    let c₁ = c .before .before .before .before in
+    let c₂ = c₁ .before .before .before .before .before .before .before in
+    let p = c₂ .pre in
+    let d = c₁ .on-symbol in
     steps-most _ (omega arith) (quietly (p .2) (clean-on (d .kept .0) (p .0)) (d .ensures))
 
 returns-3 : tie.Need-returns-3
 returns-3 c =
-    let p = c .before .before .before .before .before .before .before .before .before .before .before .pre in
-    let d = c .before .before .before .before .branch in
-    let x = c .before .before .before .before .before .before .before .before .before .before .before .args in
+    let c₁ = c .before .before .before .before in
+    let c₂ = c₁ .before .before .before in
+    let c₃ = c₂ .before .before .before .before in
+    let p = c₃ .pre in
+    let d = c₁ .branch in
+    let x = c₃ .args in
     steps-most _ (omega arith)
-    (quietly (p .2) (clean-on (d .kept .0) (p .0)) (alike (p-branches (x .p) (x .x) (c .before .before .before .before .before .before .before .if1 .left)) (any (d .ensures))))
+    (quietly (p .2) (clean-on (d .kept .0) (p .0)) (alike (p-branches (x .p) (x .x) (c₂ .if1 .left)) (any (d .ensures))))
 
 pub operate-spec : {M : Type 1} → statement M
 operate-spec =

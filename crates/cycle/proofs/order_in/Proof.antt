@@ -7,8 +7,11 @@ use Rattle.cycle.proofs.order_in.Tie as tie
 returns : tie.Need-returns
 unfolding orderIn
 returns c =
-    test-on (c .before .before .before .refuse-if .ensures)
-    (test-on (c .before .before .not-own .ensures) (reads-on _ (c .before .designate .ensures) give-on))
+    let c₁ = c .before in
+    let c₂ = c₁ .before in
+    let c₃ = c₂ .before in
+    test-on (c₃ .refuse-if .ensures)
+    (test-on (c₂ .not-own .ensures) (reads-on _ (c₁ .designate .ensures) give-on))
 
 pub order-in-spec : {M : Type 1} → statement M
 order-in-spec =

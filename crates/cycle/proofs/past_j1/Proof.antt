@@ -24,34 +24,50 @@ abbrev μ-loop : tie.MeasureT-loop
 μ-loop cells₀ log₀ top turns₀ go₀ y₀ cells log turns go y = turns
 
 add-turns : tie.Need-add-turns Inv-loop μ-loop
-add-turns c = omega (arith, c .before .before .pre .1)
+add-turns c =
+    let c₁ = c .before .before in
+    omega (arith, c₁ .pre .1)
 
 loop-holds : tie.Need-loop-holds Inv-loop μ-loop
 loop-holds c = (refl, refl, omega arith, reach-most _ (omega arith) (reach-alike (λ e k h. refl)))
 
 pop-requires : tie.Need-pop-requires Inv-loop μ-loop
 pop-requires c κs =
-    let l = c .before .before .before .before .before .before .before .loop in
-    let t = and-true (ltb 0 (l .turns)) _ (c .before .before .before .before .if1 .taken) in
-    record { fits = omega (arith, ltb-true 0 (l .turns) (t .0), l .inv .1, l .inv .2, l .inv .3 .count, c .before .before .before .before .before .before .before .before .before .before .pre .0 .fits) }
+    let c₁ = c .before .before .before .before in
+    let c₂ = c₁ .before .before .before in
+    let c₃ = c₂ .before .before .before in
+    let l = c₂ .loop in
+    let t = and-true (ltb 0 (l .turns)) _ (c₁ .if1 .taken) in
+    record { fits = omega (arith, ltb-true 0 (l .turns) (t .0), l .inv .1, l .inv .2, l .inv .3 .count, c₃ .pre .0 .fits) }
 
 sub-turns : tie.Need-sub-turns Inv-loop μ-loop
-sub-turns c = let l = c .before .before .before .before .before .before .before .before .before .before .before .before .before .loop in omega (arith, ltb-true 0 (l .turns) (and-true (ltb 0 (l .turns)) _ (c .before .before .before .before .before .before .before .before .before .before .if1 .taken) .0))
+sub-turns c =
+    let c₁ = c .before .before .before .before .before .before .before .before .before .before in
+    let c₂ = c₁ .before .before .before in
+    let l = c₂ .loop in omega (arith, ltb-true 0 (l .turns) (and-true (ltb 0 (l .turns)) _ (c₁ .if1 .taken) .0))
 
 loop-less : tie.Need-loop-less Inv-loop μ-loop
-loop-less c = let l = c .before .before .before .before .before .before .before .before .before .before .before .before .before .loop in omega (arith, ltb-true 0 (l .turns) (and-true (ltb 0 (l .turns)) _ (c .before .before .before .before .before .before .before .before .before .before .if1 .taken) .0))
+loop-less c =
+    let c₁ = c .before .before .before .before .before .before .before .before .before .before in
+    let c₂ = c₁ .before .before .before in
+    let l = c₂ .loop in omega (arith, ltb-true 0 (l .turns) (and-true (ltb 0 (l .turns)) _ (c₁ .if1 .taken) .0))
 
 loop-again : tie.Need-loop-again Inv-loop μ-loop
 loop-again c =
-    let l = c .before .before .before .before .before .before .before .before .before .before .before .before .before .loop in
-    let d = c .before .before .before .before .before .pop in
-    let t = and-true (ltb 0 (l .turns)) _ (c .before .before .before .before .before .before .before .before .before .before .if1 .taken) in
+    let c₁ = c .before .before .before .before .before in
+    let c₂ = c₁ .before .before .before in
+    let c₃ = c₂ .before .before in
+    let c₄ = c₃ .before in
+    let c₅ = c₄ .before .before in
+    let l = c₅ .loop in
+    let d = c₁ .pop in
+    let t = and-true (ltb 0 (l .turns)) _ (c₃ .if1 .taken) in
     let more = ltb-true 0 (l .turns) (t .0) in (
       d .kept .0 ∙ l .inv .0,
       d .kept .1 .0 ∙ l .inv .1,
       omega (arith, l .inv .2),
       reach-most _ (omega (arith, more, l .inv .2))
-          (reach-then (l .inv .3) (j1-turn (l .turns) (l .y) more (sym (c .before .before .before .before .before .before .before .before .before .before .before .is-j1 .ensures) ∙ t .1) (c .before .before .before .before .before .before .before .before .own .ensures) (c .symbol .ensures) (d .ensures))),
+          (reach-then (l .inv .3) (j1-turn (l .turns) (l .y) more (sym (c₄ .is-j1 .ensures) ∙ t .1) (c₂ .own .ensures) (c .symbol .ensures) (d .ensures))),
     )
 
 same-length : tie.Need-same-length Inv-loop μ-loop
@@ -62,11 +78,14 @@ same-length-2 c = search needs
 
 returns : tie.Need-returns Inv-loop μ-loop
 returns c =
-    let l = c .before .before .before .before .loop in
+    let c₁ = c .before in
+    let c₂ = c₁ .before in
+    let c₃ = c₂ .before .before in
+    let l = c₃ .loop in
     reach-most _ (omega (arith, l .inv .2))
     (reach-then (j1-begins _)
     (reach-then (l .inv .3)
-    (j1-ends (l .turns) (l .y) (λ h. sym (c .before .before .is-j1 .ensures) ∙ and-right (ltb 0 (l .turns)) _ (lt-ltb 0 (l .turns) h) (c .before .if1 .left)) (c .refuse-if .ensures))))
+    (j1-ends (l .turns) (l .y) (λ h. sym (c₂ .is-j1 .ensures) ∙ and-right (ltb 0 (l .turns)) _ (lt-ltb 0 (l .turns) h) (c₁ .if1 .left)) (c .refuse-if .ensures))))
 
 pub past-j1-spec : {M : Type 1} → statement M
 past-j1-spec =

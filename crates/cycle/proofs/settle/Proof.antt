@@ -9,20 +9,28 @@ use Rattle.cycle.proofs.settle.Tie as tie
 
 write-line-requires : tie.Need-write-line-requires
 write-line-requires c κs =
-    let a = c .before .before .before .before .before .before .args in
-    let p = c .before .before .before .before .before .before .pre in
-    (subst (λ g. Fits g (a .at + a .len) (a .out .now)) (c .before .enum-told .given .1) (p .3), p .1, p .2)
+    let c₁ = c .before in
+    let c₂ = c₁ .before .before .before .before .before in
+    let a = c₂ .args in
+    let p = c₂ .pre in
+    (subst (λ g. Fits g (a .at + a .len) (a .out .now)) (c₁ .enum-told .given .1) (p .3), p .1, p .2)
 
 returns : tie.Need-returns
 returns c =
-    let w = c .before .before .write-line .ensures in
-    let a = c .before .before .before .before .before .before .before .before .before .args in
-    settled-done (a .log .now) (a .cells .now) (c .before .before .before .before .enum-told .given .1) (w .0) (w .1)
+    let c₁ = c .before .before in
+    let c₂ = c₁ .before .before in
+    let c₃ = c₂ .before .before .before .before .before in
+    let w = c₁ .write-line .ensures in
+    let a = c₃ .args in
+    settled-done (a .log .now) (a .cells .now) (c₂ .enum-told .given .1) (w .0) (w .1)
 
 returns-2 : tie.Need-returns-2
 returns-2 c =
-    let a = c .before .before .before .before .before .before .before .before .before .before .args in
-    settled-undone (a .at + a .len) (a .at) (a .log .now) (take (a .len) (a .line .now)) (a .cells .now) (a .out .now) (c .before .before .before .before .before .go .given .1) (c .before .before .rewind .ensures)
+    let c₁ = c .before .before in
+    let c₂ = c₁ .before .before .before in
+    let c₃ = c₂ .before .before .before .before .before in
+    let a = c₃ .args in
+    settled-undone (a .at + a .len) (a .at) (a .log .now) (take (a .len) (a .line .now)) (a .cells .now) (a .out .now) (c₂ .go .given .1) (c₁ .rewind .ensures)
 
 pub settle-spec : {M : Type 1} → statement M
 settle-spec =

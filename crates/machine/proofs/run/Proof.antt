@@ -6,46 +6,66 @@ use borrow.Author.Tests.{not-true, not-false}
 use lib.ListN.{length, length-replicate}
 use Rattle.paper.specs.Cell.{sizeFits}
 use Rattle.sound.specs.Store.{storeSound}
-use Rattle.sound.proofs.SoundLaws.{passed-formed, passed-end}
+use Rattle.sound.proofs.SoundLaws.{passed-formed, passed-end, size-range}
 use Rattle.machine.specs.declared.Ran.{Ran}
 use Rattle.machine.specs.Numbers.{numbers}
-use Rattle.machine.proofs.RunLaws.{run-size, run-over, run-unsound, run-cycles, size-range}
+use Rattle.machine.proofs.RunLaws.{run-size, run-over, run-unsound, run-cycles}
 use borrow.Author.Needs.{needs}
 use Rattle.machine.proofs.run.Statement.{statement}
 use Rattle.machine.proofs.run.Tie as tie
 
 returns : tie.Need-returns
 returns c =
-    let a = c .before .before .before .before .before .args in
-    ap (λ (r : Ran). numbers r (a .cells .now) (a .out .now)) (c .untouched .ensures)
-    ∙ run-size (a .regions) (a .budget) (a .cells .now) (a .out .now) (sym (c .before .before .size-fits .ensures) ∙ not-true _ (c .before .if1 .taken))
+    let c₁ = c .before in
+    let c₂ = c₁ .before in
+    let c₃ = c₂ .before .before .before in
+    let a = c₃ .args in
+    ap (λ (r : Ran). numbers r (a .cells .now) (a .out .now)) (c .came-to .ensures)
+    ∙ run-size (a .regions) (a .budget) (a .cells .now) (a .out .now) (sym (c₂ .size-fits .ensures) ∙ not-true _ (c₁ .if1 .taken))
 
 returns-2 : tie.Need-returns-2
 returns-2 c =
-    let a = c .before .before .before .before .before .before .args in
-    let e = sym (c .before .before .before .size-fits .ensures) ∙ not-false _ (c .before .before .if1 .left) in
-    ap (λ (r : Ran). numbers r (a .cells .now) (a .out .now)) (c .untouched2 .ensures)
-    ∙ run-over (a .regions) (a .budget) (a .cells .now) (a .out .now) e (c .before .if2 .taken)
+    let c₁ = c .before in
+    let c₂ = c₁ .before in
+    let c₃ = c₂ .before in
+    let c₄ = c₃ .before .before .before in
+    let a = c₄ .args in
+    let e = sym (c₃ .size-fits .ensures) ∙ not-false _ (c₂ .if1 .left) in
+    ap (λ (r : Ran). numbers r (a .cells .now) (a .out .now)) (c .came-to2 .ensures)
+    ∙ run-over (a .regions) (a .budget) (a .cells .now) (a .out .now) e (c₁ .if2 .taken)
 
 returns-3 : tie.Need-returns-3
 returns-3 c =
-    let a = c .before .before .before .before .before .before .before .before .before .args in
-    let e = sym (c .before .before .before .before .before .before .size-fits .ensures) ∙ not-false _ (c .before .before .before .before .before .if1 .left) in
-    ap (λ (r : Ran). numbers r (a .cells .now) (a .out .now)) (c .untouched3 .ensures)
-    ∙ run-unsound (a .regions) (a .budget) (a .cells .now) (a .out .now) e (sym (c .before .before .sound .ensures) ∙ not-true _ (c .before .if3 .taken))
+    let c₁ = c .before in
+    let c₂ = c₁ .before in
+    let c₃ = c₂ .before .before .before in
+    let c₄ = c₃ .before in
+    let c₅ = c₄ .before .before .before in
+    let a = c₅ .args in
+    let e = sym (c₄ .size-fits .ensures) ∙ not-false _ (c₃ .if1 .left) in
+    ap (λ (r : Ran). numbers r (a .cells .now) (a .out .now)) (c .came-to3 .ensures)
+    ∙ run-unsound (a .regions) (a .budget) (a .cells .now) (a .out .now) e (sym (c₂ .sound .ensures) ∙ not-true _ (c₁ .if3 .taken))
 
 -- the store passed
 abbrev Passed : Type 0
 Passed = tie.After-top
 
 abbrev start : Passed → tie.Start
-start c = c .before .before .before .before .before .before .before .before .before
+start c =
+    let c₁ = c .before .before .before .before .before .before .before .before .before in
+    c₁
 
 fits : (c : Passed) → sizeFits (length (start c .args .cells .now)) ≡ true
-fits c = sym (c .before .before .before .before .before .before .size-fits .ensures) ∙ not-false _ (c .before .before .before .before .before .if1 .left)
+fits c =
+    let c₁ = c .before .before .before .before .before in
+    let c₂ = c₁ .before in
+    sym (c₂ .size-fits .ensures) ∙ not-false _ (c₁ .if1 .left)
 
 sound : (c : Passed) → storeSound (start c .args .regions) (start c .args .cells .now) ≡ true
-sound c = sym (c .before .before .sound .ensures) ∙ not-false _ (c .before .if3 .left)
+sound c =
+    let c₁ = c .before in
+    let c₂ = c₁ .before in
+    sym (c₂ .sound .ensures) ∙ not-false _ (c₁ .if3 .left)
 
 cast-top : tie.Need-cast-top
 cast-top c =
@@ -55,7 +75,8 @@ cast-top c =
 
 cycles-requires : tie.Need-cycles-requires
 cycles-requires c κs =
-    let d = c .before .before .before .before .before .before .before .before .before .before in
+    let c₁ = c .before .before .before .before .before .before .before .before .before .before in
+    let d = c₁ in
     let a = start d .args in
     let n = size-range (length (a .cells .now)) (fits d) in (
       record {
@@ -69,10 +90,13 @@ cycles-requires c κs =
 
 returns-4 : tie.Need-returns-4
 returns-4 c =
-    let d = c .before .before .before .before .before .before .before .before .before .before .before .before .before .before .before .before in
+    let c₁ = c .before .before .before .before .before in
+    let c₂ = c₁ .before .before .before .before .before .before .before .before .before .before .before in
+    let c₃ = c₂ .before .before .before .before in
+    let d = c₂ in
     let a = start d .args in
-    c .before .before .before .before .before .cycles .ensures
-    ∙ run-cycles (a .regions) (a .budget) (a .cells .now) (a .out .now) (fits d) (c .before .before .before .before .before .before .before .before .before .before .before .before .before .before .before .before .before .before .before .before .if2 .left) (sound d)
+    c₁ .cycles .ensures
+    ∙ run-cycles (a .regions) (a .budget) (a .cells .now) (a .out .now) (fits d) (c₃ .if2 .left) (sound d)
 
 pub run-spec : {M : Type 1} → statement M
 run-spec =

@@ -74,8 +74,28 @@ returns-8 c =
 
 returns-9 : tie.Need-returns-9
 unfolding noneFor listed member
-returns-9 c =
-    (unlisted 60 109 _ (60 ∷ 63 ∷ 64 ∷ 68 ∷ 71 ∷ 72 ∷ 74 ∷ 90 ∷ []) refl (omega arith) (omega arith) (let r = c .before .match .rest in (r .0 .0 .0 .0 .0 .0 .0 .1, (r .0 .0 .0 .0 .0 .0 .1, (r .0 .0 .0 .0 .0 .1, (r .0 .0 .0 .0 .1, (r .0 .0 .0 .1, (r .0 .0 .1, (r .0 .1, (r .1, tt))))))))) (c .refuse-if .ensures), c .before .before .before .before .pre .0)
+returns-9 c = (
+  unlisted 60 109 _ (60 ∷ 63 ∷ 64 ∷ 68 ∷ 71 ∷ 72 ∷ 74 ∷ 90 ∷ []) refl (omega arith) (omega arith) (let r = c .before .match .rest in (
+    r .0 .0 .0 .0 .0 .0 .0 .1,
+    (
+      r .0 .0 .0 .0 .0 .0 .1,
+      (
+        r .0 .0 .0 .0 .0 .1,
+        (
+          r .0 .0 .0 .0 .1,
+          (
+            r .0 .0 .0 .1,
+            (
+              r .0 .0 .1,
+              (r .0 .1, (r .1, tt)),
+            ),
+          ),
+        ),
+      ),
+    ),
+  )) (c .refuse-if .ensures),
+  c .before .before .before .before .pre .0,
+)
 
 pub on-lists-spec : {M : Type 1} → statement M
 on-lists-spec =

@@ -2,9 +2,9 @@ use mathlib.Core.Path.{sym, _∙_}
 use borrow.Author.Tests.{not-true, not-false}
 use native.Mathlib.Omega.{arith}
 use lib.ListN.{length}
-use Rattle.sound.proofs.SoundLaws.{passed-end}
+use Rattle.sound.proofs.SoundLaws.{passed-end, size-range}
 use Rattle.plain.specs.Numbers.{Passed}
-use Rattle.plain.proofs.Settled.{unfit-size, unfit-unsound, size-range}
+use Rattle.plain.proofs.Settled.{unfit-size, unfit-unsound}
 use borrow.Author.Needs.{needs}
 use Rattle.plain.proofs.ask.Statement.{statement}
 use Rattle.plain.proofs.ask.Tie as tie

@@ -2,8 +2,9 @@ use Prim.Native.Nat.{ℕ}
 use mathlib.Core.Path.{refl, _∙_, subst}
 use native.Mathlib.Omega.{arith}
 use lib.ListN.{length, length-replicate}
+use Rattle.sound.proofs.SoundLaws.{size-range}
 use Rattle.plain.specs.Numbers.{Asks, Passed, actionOf}
-use Rattle.plain.proofs.Settled.{plain-unfit, plain-settled, size-range, empty}
+use Rattle.plain.proofs.Settled.{plain-unfit, plain-settled, empty}
 use borrow.Author.Needs.{needs}
 use Rattle.plain.proofs.plainly.Statement.{statement}
 use Rattle.plain.proofs.plainly.Tie as tie

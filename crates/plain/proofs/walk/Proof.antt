@@ -3,7 +3,7 @@ use mathlib.Core.Path.{refl, _∙_, subst}
 use native.Mathlib.Omega.{arith}
 use lib.ListN.{length, length-replicate}
 use Rattle.plain.specs.Numbers.{Asks, Passed}
-use Rattle.plain.proofs.Settled.{size-range}
+use Rattle.sound.proofs.SoundLaws.{size-range}
 use Rattle.plain.proofs.Walked.{walk-unfit, walk-done, walk-refused}
 use borrow.Author.Needs.{needs}
 use Rattle.plain.proofs.walk.Statement.{statement}

@@ -66,7 +66,25 @@ returns-8 c =
 returns-9 : tie.Need-returns-9
 unfolding noneFor listed member
 returns-9 c =
-    unlisted 0 9 15 (0 ∷ 2 ∷ 3 ∷ 4 ∷ 5 ∷ 6 ∷ 8 ∷ 9 ∷ []) refl (omega arith) (omega arith) (let r = c .before .match .rest in (r .0 .0 .0 .0 .0 .0 .0 .1, (r .0 .0 .0 .0 .0 .0 .1, (r .0 .0 .0 .0 .0 .1, (r .0 .0 .0 .0 .1, (r .0 .0 .0 .1, (r .0 .0 .1, (r .0 .1, (r .1, tt)))))))))
+    unlisted 0 9 15 (0 ∷ 2 ∷ 3 ∷ 4 ∷ 5 ∷ 6 ∷ 8 ∷ 9 ∷ []) refl (omega arith) (omega arith) (let r = c .before .match .rest in (
+      r .0 .0 .0 .0 .0 .0 .0 .1,
+      (
+        r .0 .0 .0 .0 .0 .0 .1,
+        (
+          r .0 .0 .0 .0 .0 .1,
+          (
+            r .0 .0 .0 .0 .1,
+            (
+              r .0 .0 .0 .1,
+              (
+                r .0 .0 .1,
+                (r .0 .1, (r .1, tt)),
+              ),
+            ),
+          ),
+        ),
+      ),
+    ))
     (c .refuse-if .ensures)
 
 pub first-ten-spec : {M : Type 1} → statement M

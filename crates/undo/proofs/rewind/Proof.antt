@@ -26,7 +26,12 @@ loop-again-2 : tie.Need-loop-again-2 Inv-loop μ-loop
 loop-again-2 c =
     let c₁ = c .before .before .before in
     let c₂ = c₁ .before .before in
-    (search needs, search needs, ap (rewindFrom (c₂ .args .log .now) ((c₁ .loop .left) - 1)) (sym (set-out _ _ _ (c .if1 .left))) ∙ sym (rewind-step (c₂ .args .log .now) (c₁ .loop .left) (c₁ .loop .cells) (omega arith)) ∙ (c₁ .loop .inv .2))
+    let l = c₁ .loop in
+    let log = c₂ .args .log .now in (
+      search needs,
+      search needs,
+      ap (rewindFrom log (l .left - 1)) (sym (set-out _ _ _ (c .if1 .left))) ∙ sym (rewind-step log (l .left) (l .cells) (omega arith)) ∙ l .inv .2,
+    )
 
 returns : tie.Need-returns Inv-loop μ-loop
 unfolding rewindOf

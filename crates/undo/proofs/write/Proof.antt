@@ -12,7 +12,12 @@ slice-write-log-3 c = simp length-set (omega arith)
 returns : tie.Need-returns
 returns c =
     let c₁ = c .before .before in
-    record { is = refl; back = logged-back (c₁ .args .log .now) (c₁ .args .cells .now) _ (c₁ .args .at) (c₁ .args .y) (omega arith) refl; count = logged-used (c₁ .args .log .now) (c₁ .args .cells .now) _ (c₁ .args .at) (c₁ .args .y) (omega arith) refl }
+    let a = c₁ .args in
+    record {
+      is = refl;
+      back = logged-back (a .log .now) (a .cells .now) _ (a .at) (a .y) (omega arith) refl;
+      count = logged-used (a .log .now) (a .cells .now) _ (a .at) (a .y) (omega arith) refl;
+    }
 
 pub write-spec : {M : Type 1} → statement M
 write-spec =
