@@ -40,7 +40,7 @@ module _ (rs : List Region) (top at : ℕ) (out : List ℕ) (ends : endOfRegions
       → stateOf (lined (take len line) rest) s ≡ stateAt rs s out₂ (at + len)
   written s line out₂ len h w =
       let p : (length out - at) - length (take len line) ≡ length out₂ - (at + len) =
-          omega (arith, length-take-le len line (omega (arith, h .sized, h .within)), w .writes .sized) in
+      omega (arith, length-take-le len line (omega (arith, h .sized, h .within)), w .writes .sized) in
       λ i. stateOf (record { regions = rs; lines = sym (w .writes .text) i; room = p i }) s
 
   module _ {k : ℕ} {s l s₁ l₁ order marks line : List ℕ} {len : ℕ} (s₂ out₂ : List ℕ) (r : Cycled) (fresh : used l ≡ 0) where

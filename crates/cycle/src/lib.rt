@@ -99,7 +99,20 @@ fn execute(
     let go = acts::not_own(d, y.num);
     if cells::is_process(t.x) {
         let j = process_number(y.num);
-        let p = perform::perform(cells, log, order, marks, line, letters, counts, n, go, top, room, j);
+        let p = perform::perform(
+            cells,
+            log,
+            order,
+            marks,
+            line,
+            letters,
+            counts,
+            n,
+            go,
+            top,
+            room,
+            j,
+        );
         let done = p.go;
         return Operated {
             go: done,
@@ -153,7 +166,19 @@ fn operate(
         (now (cells .entry)) (now (log .entry)) Done (now (cells .exit)) (now (log .exit)) (now (order .exit)) (now (marks .exit)) (now (line .exit)) (r .go) (r .len) (r .moved) ⌝ }
 {
     match p {
-        0 => execute(cells, log, order, marks, line, letters, counts, n, top, room, x),
+        0 => execute(
+            cells,
+            log,
+            order,
+            marks,
+            line,
+            letters,
+            counts,
+            n,
+            top,
+            room,
+            x,
+        ),
         1..=6 => {
             let go = on_symbol(cells, log, top, p, x);
             Operated {
@@ -187,7 +212,13 @@ fn order_in(cells: &[u64], a: Acted, top: u16, c: u16, w: u64) -> Fetched
 {
     let b = undo::refuse_if(a, w / cells::Q % 256 == 4, Refusal::WrongKind(c));
     let d = acts::not_own(b, c);
-    let g = acts::designate(cells, d, top, (w / cells::Q % 256) as u8, (w / cells::SYMB % 65536) as u16);
+    let g = acts::designate(
+        cells,
+        d,
+        top,
+        (w / cells::Q % 256) as u8,
+        (w / cells::SYMB % 65536) as u16,
+    );
     let go = g.go;
     let x = g.x;
     Fetched {
@@ -244,7 +275,20 @@ fn interpret(
     let x = f.x;
     match go {
         Acted::Done => {
-            let r = operate(cells, log, order, marks, line, letters, counts, n, top, room, f.p, x);
+            let r = operate(
+                cells,
+                log,
+                order,
+                marks,
+                line,
+                letters,
+                counts,
+                n,
+                top,
+                room,
+                f.p,
+                x,
+            );
             let done = r.go;
             control::advance(cells, log, done, top, f.link, r.moved);
             Printed {
@@ -283,11 +327,32 @@ fn attempt(
         let go = control::ascend(cells, log, a, top);
         return Printed { go: go, len: 0 };
     }
-    interpret(cells, log, order, marks, line, letters, counts, n, a, top, room, c)
+    interpret(
+        cells,
+        log,
+        order,
+        marks,
+        line,
+        letters,
+        counts,
+        n,
+        a,
+        top,
+        room,
+        c,
+    )
 }
 
 // The end of a cycle: its line is written, or all its writes are undone.
-fn settle(cells: &mut [u64], log: &[u64], line: &[u8; 32], out: &mut [u8], at: usize, go: Acted, len: usize) -> Cycled
+fn settle(
+    cells: &mut [u64],
+    log: &[u64],
+    line: &[u8; 32],
+    out: &mut [u8],
+    at: usize,
+    go: Acted,
+    len: usize,
+) -> Cycled
     requires { ⌜ Room (now log) 0 × (length (now line) ≡ 32) × (len ≤ 32) × Fits go (at + len) (now out) ⌝ }
     ensures { λ r. ⌜ Settles go (at + len) (now (log .entry)) (take len (now (line .entry))) at
         (now (cells .entry)) (now (out .entry)) (now (cells .exit)) (now (out .exit)) r ⌝ }
@@ -325,7 +390,19 @@ pub fn cycle(
 {
     undo::fresh(log);
     let room = out.len() - at;
-    let p = attempt(cells, log, order, marks, line, letters, counts, n, Acted::Done, top, room);
+    let p = attempt(
+        cells,
+        log,
+        order,
+        marks,
+        line,
+        letters,
+        counts,
+        n,
+        Acted::Done,
+        top,
+        room,
+    );
     let go = p.go;
     settle(cells, log, line, out, at, go, p.len)
 }

@@ -76,7 +76,7 @@ ends rs s out out₀ r f h past =
     let at = r .len in
     let k : at ≡ length (take at out) = sym (length-take-le at out h) in
     let b : out ≡ take at out ++ drop (length (take at out)) out₀ =
-        sym (take-append-drop at out) ∙ ap (λ x. take at out ++ x) (past ∙ ap (λ i. drop i out₀) k) in
+    sym (take-append-drop at out) ∙ ap (λ x. take at out ++ x) (past ∙ ap (λ i. drop i out₀) k) in
     let c = sym (packed-unpacked s f) in
     λ i. record { answer = r .answer; cycles = r .cycles; len = k i; cells = c i; out = b i }
 

@@ -55,7 +55,19 @@ fn cycles(
                 len: at,
             };
         }
-        let c = cycle::cycle(cells, log, order, marks, line, letters, counts, n, top, out, at);
+        let c = cycle::cycle(
+            cells,
+            log,
+            order,
+            marks,
+            line,
+            letters,
+            counts,
+            n,
+            top,
+            out,
+            at,
+        );
         match c {
             Cycled::Progress(end) => {
                 at = end;
@@ -108,5 +120,17 @@ pub fn run(cells: &mut [u64], regions: Regions, budget: u32, out: &mut [u8]) -> 
     let mut order = [0u16; 16384];
     let mut marks = [0u16; 16384];
     let mut line = [0u8; 32];
-    cycles(cells, &mut log, &mut order, &mut marks, &mut line, &letters, &counts, regions.n, top, budget, out)
+    cycles(
+        cells,
+        &mut log,
+        &mut order,
+        &mut marks,
+        &mut line,
+        &letters,
+        &counts,
+        regions.n,
+        top,
+        budget,
+        out,
+    )
 }

@@ -51,7 +51,7 @@ loop-again c =
       d .kept .1 .0 ∙ l .inv .1,
       omega (arith, l .inv .2),
       reach-most _ (omega (arith, more, l .inv .2))
-      (reach-then (l .inv .3) (j1-turn (l .turns) (l .y) more (sym (c .before .before .before .before .before .before .before .before .before .before .before .is-j1 .ensures) ∙ t .1) (c .before .before .before .before .before .before .before .before .own .ensures) (c .symbol .ensures) (d .ensures))),
+          (reach-then (l .inv .3) (j1-turn (l .turns) (l .y) more (sym (c .before .before .before .before .before .before .before .before .before .before .before .is-j1 .ensures) ∙ t .1) (c .before .before .before .before .before .before .before .before .own .ensures) (c .symbol .ensures) (d .ensures))),
     )
 
 same-length : tie.Need-same-length Inv-loop μ-loop
