@@ -43,11 +43,10 @@ pub fn four(b: &[u8], at: u16) -> u32 {
     (two(b, i) * 65536 + two(b, i + 2)) as u32
 }
 
-// The eight bytes of cell c.
-fn cell(b: &[u8], c: u16) -> u64 {
-    let at = c as usize * 8;
-    let high = two(b, at) * 65536 + two(b, at + 2);
-    let low = two(b, at + 4) * 65536 + two(b, at + 6);
+// The eight bytes of a cell.
+fn cell(b: &[u8]) -> u64 {
+    let high = two(b, 0) * 65536 + two(b, 2);
+    let low = two(b, 4) * 65536 + two(b, 6);
     (high * 4294967296 + low) as u64
 }
 
@@ -58,19 +57,15 @@ fn put(cells: &mut [u64], c: u16, x: u64) {
     }
 }
 
-// The first n cells.
-fn decode(b: &[u8], cells: &mut [u64], n: u16) {
+// The cells that come next, each read by itself, so that no buffer has to hold them all: whether there were n.
+pub fn cells(bytes: &mut [u8], cells: &mut [u64], n: u16) -> bool {
+    let mut whole = true;
     let mut c = 0;
     while c < n {
-        put(cells, c, cell(b, c));
+        whole = whole & take(bytes, 8);
+        put(cells, c, cell(bytes));
         c += 1;
     }
-}
-
-// The cells that come next: whether there were n.
-pub fn cells(bytes: &mut [u8], cells: &mut [u64], n: u16) -> bool {
-    let whole = take(bytes, n as usize * 8);
-    decode(bytes, cells, n);
     whole
 }
 

@@ -13,7 +13,7 @@ fn all(cells: &mut [u64], bytes: &mut [u8], out: &mut [u8]) {
 
 fn main() {
     let mut cells = [0u64; 65536];
-    let mut bytes = [0u8; 524288];
-    let mut out = [0u8; 65536];
+    let mut bytes = io::large_buffer();
+    let mut out = io::large_buffer();
     all(&mut cells, &mut bytes, &mut out);
 }
