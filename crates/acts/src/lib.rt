@@ -1,5 +1,6 @@
 // The small actions of a cycle, line by line the blocks of paper/specs/Act. Each takes the answer so far and does nothing where
-// that is a refusal; it is looked at once, before the writes. Reserved cells are those below `top`, where the deck regions end.
+// that is a refusal; take_as, pull_up, store and push, which are called most, look at it once, before their writes. Reserved cells
+// are those below `top`, where the deck regions end.
 ghost use mathlib.Core.Path.{_≡_};
 ghost use mathlib.Core.Bool.{_&&_, _||_};
 ghost use lib.Dec.{eqb};
