@@ -12,9 +12,10 @@ use lib.Seq.{getD-set-same, getD-set-other, set-set, set-comm, set-getD}
 use Rattle.paper.specs.declared.Symbol.{Symbol}
 use Rattle.paper.specs.declared.Refusal.{Refusal}
 use Rattle.paper.specs.declared.Refusal.the-variants.{FreeCell, WrongKind, NotToBeFreed, NothingBelow}
-use Rattle.paper.specs.Cell.{State, Region, Cell, free, word, integer, process, isFree, isWord, wordIn, Word, withLink, withCells, cellAt}
+use Rattle.paper.specs.Limits.{firstDeck}
+use Rattle.paper.specs.Cell.{State, Region, Cell, free, word, term, process, isFree, isWord, wordIn, Word, withLink, withCells, cellAt}
 use Rattle.paper.specs.Cell.{endOfRegions, reservedIn, isHW, H}
-use Rattle.paper.specs.Act.{Act, done, refused, _>>=_, _>>_, ret, refuseIf, own, peek, put, reserved, touch, wordAt, hasBelow, pullUp, release}
+use Rattle.paper.specs.Act.{Act, done, refused, _>>=_, _>>_, ret, refuseIf, own, peek, put, reserved, touch, asWord, wordAt, hasBelow, pullUp, release}
 use Rattle.paper.specs.Act.{takeAs, ownRestore, pop, push, pops, gives}
 use Rattle.cells.specs.Bridge.{Rest, stateOf, cellIn}
 use Rattle.undo.specs.declared.Acted.{Acted}
@@ -30,12 +31,12 @@ end-least [] at = omega arith
 end-least (r ∷ rs) at = let h = end-least rs (at + r .count) in omega arith
 
 -- a cell that is not 0 and not reserved is no H, W or J cell
-high : (rs : List Region) (n : ℕ) → eqb n 0 ≡ false → reservedIn rs n ≡ false → 221 ≤ n
+high : (rs : List Region) (n : ℕ) → eqb n 0 ≡ false → reservedIn rs n ≡ false → firstDeck ≤ n
 unfolding reservedIn
 high rs zero n0 un = absurd (eqb-false 0 0 n0 refl)
 high rs (suc n) n0 un =
-    let q : ltb (suc n) (endOfRegions rs 221) ≡ false = rw (lt-ltb 0 (suc n) (omega arith)) at un in
-    omega (arith, ltb-false (suc n) (endOfRegions rs 221) q, end-least rs 221)
+    let q : ltb (suc n) (endOfRegions rs firstDeck) ≡ false = rw (lt-ltb 0 (suc n) (omega arith)) at un in
+    omega (arith, ltb-false (suc n) (endOfRegions rs firstDeck) q, end-least rs firstDeck)
 
 in-range : (cs : List Cell) (n : ℕ) (v : Word) → cellAt cs n ≡ word v → n < length cs
 in-range [] n v e = absurd (let z : _≡_ {A = ℕ} 0 1 = cc in omega arith)
@@ -60,7 +61,7 @@ unfolding touch ret
 touches c s y p at q = then-ok _ _ _ _ _ (passes _ _ s p) (bind-ok _ _ _ _ _ (peeks c s y at) (then-ok _ _ _ _ _ (passes _ _ s q) refl))
 
 word-is : (n : ℕ) (s : State) (v : Word) → eqb n 0 ≡ false → cellAt (s .cells) n ≡ word v → wordAt n s ≡ done v s
-unfolding wordAt ret
+unfolding wordAt asWord ret
 word-is n s v n0 at = bind-ok _ _ _ _ _ (touches n s (word v) n0 at refl) (then-ok _ _ _ _ _ (passes _ _ s refl) refl)
 
 -- what is no word is refused
@@ -72,7 +73,7 @@ free-no n s l n0 at =
 
 kind-no : (n : ℕ) (s : State) (y : Cell) → eqb n 0 ≡ false → cellAt (s .cells) n ≡ y → isFree y ≡ false → not (isWord y) ≡ true
     → wordAt n s ≡ refused (WrongKind n)
-unfolding wordAt
+unfolding wordAt asWord
 kind-no n s y n0 at f k = bind-ok _ _ _ _ _ (touches n s y n0 at f) (then-no _ _ _ _ (fails _ _ s k))
 
 release-is : (c : ℕ) (s : State) (h : Word) → cellAt (s .cells) 3 ≡ word h
@@ -147,7 +148,7 @@ way s = go (eqb (w .link) 1) (eqb (w .link) 0) (cellAt (s .cells) (w .link)) ref
         stops (NothingBelow 1)
         (λ K. bind-ok _ _ _ _ _ (owns 1 s w refl) (then-no _ _ _ _ (then-ok _ _ _ _ _ (passes _ _ s p) (fails _ _ s q))))
     go false false (free l) p q at = no-word (FreeCell (w .link)) p q (free-no (w .link) s l q at)
-    go false false (integer z) p q at = no-word (WrongKind (w .link)) p q (kind-no (w .link) s (integer z) q at refl refl)
+    go false false (term t) p q at = no-word (WrongKind (w .link)) p q (kind-no (w .link) s (term t) q at refl refl)
     go false false process p q at = no-word (WrongKind (w .link)) p q (kind-no (w .link) s process q at refl refl)
     go false false (word v) p q at = at-word v (eqb (v .q) 1) (reservedIn (s .regions) (w .link)) p q at refl refl
 
@@ -168,7 +169,7 @@ net-no x s e f =
     ∙ sym (ap (λ (m : Act (Unit {0})). m s) (stays-lifts x) ∙ f (λ w v. put 1 (topped x w v)))
 
 module _ (s : State) (x : Symbol) (w v h : Word) (p : Pops s w v) (at-3 : cellAt (s .cells) 3 ≡ word h) where
-  far : 221 ≤ w .link
+  far : firstDeck ≤ w .link
   far = high (s .regions) (w .link) (p .some) (p .free-to)
 
   n≢1 : w .link ≢ 1
@@ -250,7 +251,7 @@ module _ (s : State) (x : Symbol) (w v h : Word) (p : Pops s w v) (at-3 : cellAt
 is-word : (y : Cell) → isWord y ≡ true → y ≡ word (wordIn y)
 is-word (word w) e = refl
 is-word (free l) e = absurd (let z : _≡_ {A = ℕ} 0 1 = cc in omega arith)
-is-word (integer z) e = absurd (let z : _≡_ {A = ℕ} 0 1 = cc in omega arith)
+is-word (term t) e = absurd (let z : _≡_ {A = ℕ} 0 1 = cc in omega arith)
 is-word process e = absurd (let z : _≡_ {A = ℕ} 0 1 = cc in omega arith)
 
 net : (x : Symbol) (s : State) → isWord (cellAt (s .cells) 3) ≡ true → gives 1 x s ≡ stays x s

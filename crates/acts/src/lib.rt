@@ -3,24 +3,34 @@
 // are those below `top`, where the deck regions end.
 ghost use mathlib.Core.Path.{_≡_};
 ghost use mathlib.Core.Bool.{_&&_, _||_};
+ghost use mathlib.Core.List.{List};
+ghost use Prim.Native.Nat.{ℕ};
 ghost use lib.Dec.{eqb};
-ghost use Rattle.paper.specs.Cell.{isHW};
-ghost use Rattle.paper.specs.Act.{own, touch, wordAt, integerAt, notOwn, named, readAt, takeAs, release, linkBelow, preserve, hasBelow, pullUp};
-ghost use Rattle.paper.specs.Act.{restore, store, ownPreserve, ownRestore, ownStore, push, pop, below, pops, gives, symbolIn, symbolInThat};
-ghost use Rattle.paper.specs.Act.{designate};
-ghost use Rattle.cells.specs.Layout.{unpackOf, wordOf, valueOf};
+ghost use Rattle.paper.specs.Cell.{isHW, H as cellH};
+ghost use Rattle.paper.specs.Act.{own, touch, target, asWord, asTerm, wordAt, wordTo, termAt, termTo, notOwn, named, readAt, takeAs, release};
+ghost use Rattle.paper.specs.Act.{linkBelow, preserve, hasBelow, pullUp, restore, store, ownPreserve, ownRestore, ownStore, push, pop, below};
+ghost use Rattle.paper.specs.Act.{pops, gives, symbolIn, symbolInThat, designate};
+ghost use Rattle.paper.specs.Process.{integerAt};
+ghost use Rattle.cells.specs.Layout.{unpackOf, wordOf, valueOf, termOf};
 ghost use Rattle.cells.specs.Pack.{packOf};
 ghost use Rattle.undo.specs.Log.{Room};
 ghost use Rattle.undo.specs.Did.{Judged, Always, Top, reservedBy, nameBy, Sees, Reads, Did};
 ghost use Rattle.acts.specs.Net.{stays};
 use paper::Refusal;
 use paper::Symbol;
+use paper::limits;
 use undo::Acted;
 
-// What an action came to, and its value: the number of a cell or a word, an integer (its value + 2^31), a cell's place, a symbol.
+// What an action came to, and its value: the number of a cell or a word, a data term, an integer (its value + 2^31), a cell's place,
+// a symbol.
 pub struct Got {
     pub go: Acted,
     pub x: u64,
+}
+
+pub struct GotTerm {
+    pub go: Acted,
+    pub v: u32,
 }
 
 pub struct GotInteger {
@@ -53,35 +63,80 @@ pub fn touch(cells: &[u64], a: Acted, c: u16) -> Got
     Got { go: go, x: x }
 }
 
+// A cell that is to be written.
+pub fn target(cells: &[u64], a: Acted, c: u16) -> Got
+    ensures { λ r. ⌜ Reads Always (target c) (now (cells .entry)) a (r .go) (unpackOf (r .x)) ⌝ }
+{
+    touch(cells, a, c)
+}
+
+// The word or the term in a cell that was touched, whatever the store.
+fn as_word(a: Acted, c: u16, x: u64) -> Got
+    ensures { λ r. ⌜ ((s : List ℕ) → Reads Always (asWord c (unpackOf x)) s a (r .go) (wordOf (r .x))) ⌝ }
+{
+    let go = undo::refuse_if(a, !cells::is_word(x), Refusal::WrongKind(c));
+    Got {
+        go: go,
+        x: cells::word_in(x),
+    }
+}
+
+fn as_term(a: Acted, c: u16, x: u64) -> GotTerm
+    ensures { λ r. ⌜ ((s : List ℕ) → Reads Always (asTerm c (unpackOf x)) s a (r .go) (termOf (r .v))) ⌝ }
+{
+    let go = undo::refuse_if(a, !cells::is_term(x), Refusal::WrongKind(c));
+    GotTerm {
+        go: go,
+        v: cells::term_in(x),
+    }
+}
+
 pub fn word_at(cells: &[u64], a: Acted, c: u16) -> Got
     ensures { λ r. ⌜ Reads Always (wordAt c) (now (cells .entry)) a (r .go) (wordOf (r .x)) ⌝ }
 {
     let t = touch(cells, a, c);
     let b = t.go;
-    let go = undo::refuse_if(b, !cells::is_word(t.x), Refusal::WrongKind(c));
-    Got {
-        go: go,
-        x: cells::word_in(t.x),
-    }
+    as_word(b, c, t.x)
 }
 
-pub fn integer_at(cells: &[u64], a: Acted, c: u16) -> GotInteger
-    ensures { λ r. ⌜ Reads Always (integerAt c) (now (cells .entry)) a (r .go) (valueOf (r .v)) ⌝ }
+pub fn word_to(cells: &[u64], a: Acted, c: u16) -> Got
+    ensures { λ r. ⌜ Reads Always (wordTo c) (now (cells .entry)) a (r .go) (wordOf (r .x)) ⌝ }
+{
+    let t = target(cells, a, c);
+    let b = t.go;
+    as_word(b, c, t.x)
+}
+
+pub fn term_at(cells: &[u64], a: Acted, c: u16) -> GotTerm
+    ensures { λ r. ⌜ Reads Always (termAt c) (now (cells .entry)) a (r .go) (termOf (r .v)) ⌝ }
 {
     let t = touch(cells, a, c);
     let b = t.go;
-    let go = undo::refuse_if(b, !cells::is_integer(t.x), Refusal::WrongKind(c));
-    GotInteger {
-        go: go,
-        v: cells::integer_in(t.x),
-    }
+    as_term(b, c, t.x)
+}
+
+pub fn term_to(cells: &[u64], a: Acted, c: u16) -> GotTerm
+    ensures { λ r. ⌜ Reads Always (termTo c) (now (cells .entry)) a (r .go) (termOf (r .v)) ⌝ }
+{
+    let t = target(cells, a, c);
+    let b = t.go;
+    as_term(b, c, t.x)
+}
+
+// A term of the one sort is its integer.
+pub fn integer_at(cells: &[u64], a: Acted, c: u16) -> GotInteger
+    ensures { λ r. ⌜ Reads Always (integerAt c) (now (cells .entry)) a (r .go) (valueOf (r .v)) ⌝ }
+{
+    let t = term_at(cells, a, c);
+    let go = t.go;
+    GotInteger { go: go, v: t.v }
 }
 
 // H1 and H2.
 fn is_own(c: u16) -> bool
-    ensures { λ r. ⌜ r ≡ (eqb c 2 || eqb c 3) ⌝ }
+    ensures { λ r. ⌜ r ≡ (eqb c (cellH 1) || eqb c (cellH 2)) ⌝ }
 {
-    c == 2 || c == 3
+    c == limits::H1 || c == limits::H2
 }
 
 pub fn not_own(a: Acted, c: u16) -> Acted
@@ -136,14 +191,14 @@ pub fn take_as(cells: &mut [u64], log: &mut [u64], a: Acted, y: u64) -> GotCell
     requires { ⌜ Room (now log) 2 × (packOf (unpackOf y) ≡ y) ⌝ }
     ensures { λ r. ⌜ Did Always 2 (takeAs (unpackOf y)) (now (cells .entry)) (now (log .entry)) a (now (cells .exit)) (now (log .exit)) (r .go) (r .c) ⌝ }
 {
-    let h = own(cells, 3);
+    let h = own(cells, limits::H2);
     let f = (h % 65536) as u16;
     let go = undo::refuse_if(a, f == 0, Refusal::NoFreeCell);
     match go {
         Acted::Done => {
             let x = cells::peek(cells, f);
             let z = cells::with_link(h, cells::free_link(x));
-            undo::put(cells, log, Acted::Done, 3, z);
+            undo::put(cells, log, Acted::Done, limits::H2, z);
             undo::put(cells, log, Acted::Done, f, y);
             GotCell {
                 go: Acted::Done,
@@ -161,11 +216,11 @@ pub fn release(cells: &mut [u64], log: &mut [u64], a: Acted, c: u16)
     requires { ⌜ Room (now log) 2 ⌝ }
     ensures { λ _. ⌜ Did Always 2 (release c) (now (cells .entry)) (now (log .entry)) a (now (cells .exit)) (now (log .exit)) a tt ⌝ }
 {
-    let h = own(cells, 3);
+    let h = own(cells, limits::H2);
     let y = cells::of_free((h % 65536) as u16);
     let z = cells::with_link(h, c);
     undo::put(cells, log, a, c, y);
-    undo::put(cells, log, a, 3, z);
+    undo::put(cells, log, a, limits::H2, z);
 }
 
 pub fn link_below(cells: &mut [u64], log: &mut [u64], a: Acted, c: u16, w: u64, v: u64) -> Acted
@@ -185,10 +240,11 @@ pub fn preserve(cells: &mut [u64], log: &mut [u64], a: Acted, c: u16) -> Acted
     requires { ⌜ Room (now log) 3 ⌝ }
     ensures { λ r. ⌜ Did Always 3 (preserve c) (now (cells .entry)) (now (log .entry)) a (now (cells .exit)) (now (log .exit)) r tt ⌝ }
 {
-    let g = named(cells, a, c);
+    let g = word_to(cells, a, c);
     let w = g.x;
     let b = g.go;
-    link_below(cells, log, b, c, w, w)
+    let go = not_own(b, c);
+    link_below(cells, log, go, c, w, w)
 }
 
 pub fn has_below(a: Acted, c: u16, w: u64) -> Acted
@@ -203,7 +259,7 @@ pub fn has_below(a: Acted, c: u16, w: u64) -> Acted
 fn q1_for_hw(c: u16, w: u64) -> bool
     ensures { λ r. ⌜ r ≡ (isHW c && eqb (wordOf w .q) 1) ⌝ }
 {
-    reserved(21, c) && w / cells::Q % 256 == 1
+    reserved(limits::J0, c) && w / cells::Q % 256 == 1
 }
 
 pub fn pull_up(cells: &mut [u64], log: &mut [u64], a: Acted, top: u16, c: u16, below: u16) -> Acted
@@ -229,7 +285,7 @@ pub fn restore(cells: &mut [u64], log: &mut [u64], a: Acted, top: u16, c: u16) -
     requires { ⌜ Room (now log) 3 ⌝ }
     ensures { λ r. ⌜ Did (Top top) 3 (restore c) (now (cells .entry)) (now (log .entry)) a (now (cells .exit)) (now (log .exit)) r tt ⌝ }
 {
-    let g = word_at(cells, a, c);
+    let g = word_to(cells, a, c);
     let w = g.x;
     let b = g.go;
     let d = has_below(b, c, w);
@@ -241,9 +297,10 @@ pub fn store(cells: &mut [u64], log: &mut [u64], a: Acted, c: u16, x: Symbol) ->
     requires { ⌜ Room (now log) 1 ⌝ }
     ensures { λ r. ⌜ Did Always 1 (store c x) (now (cells .entry)) (now (log .entry)) a (now (cells .exit)) (now (log .exit)) r tt ⌝ }
 {
-    let g = named(cells, a, c);
+    let g = word_to(cells, a, c);
     let w = g.x;
-    let go = g.go;
+    let b = g.go;
+    let go = not_own(b, c);
     match go {
         Acted::Done => {
             let z = cells::with_symbol(w, x);
@@ -287,13 +344,13 @@ pub fn push(cells: &mut [u64], log: &mut [u64], a: Acted, x: Symbol) -> Acted
 {
     match a {
         Acted::Done => {
-            let w = own(cells, 1);
+            let w = own(cells, limits::H0);
             let y = cells::of_word(w);
             let t = take_as(cells, log, Acted::Done, y);
             let n = t.c;
             let go = t.go;
             let z = cells::of_fields((w / cells::P % 256) as u8, x.tag, x.num, n);
-            undo::put(cells, log, go, 1, z);
+            undo::put(cells, log, go, limits::H0, z);
             go
         }
         Acted::Refused(e) => Acted::Refused(e),
@@ -304,14 +361,15 @@ pub fn pop(cells: &mut [u64], log: &mut [u64], a: Acted, top: u16) -> Acted
     requires { ⌜ Room (now log) 3 ⌝ }
     ensures { λ r. ⌜ Did (Top top) 3 pop (now (cells .entry)) (now (log .entry)) a (now (cells .exit)) (now (log .exit)) r tt ⌝ }
 {
-    own_restore(cells, log, a, top, 1)
+    own_restore(cells, log, a, top, limits::H0)
 }
 
-pub fn below(cells: &[u64], a: Acted, w: u64) -> Got
-    ensures { λ r. ⌜ Reads Always (below (wordOf w)) (now (cells .entry)) a (r .go) (wordOf (r .x)) ⌝ }
+// The word one below cell c, whose word is w.
+pub fn below(cells: &[u64], a: Acted, c: u16, w: u64) -> Got
+    ensures { λ r. ⌜ Reads Always (below c (wordOf w)) (now (cells .entry)) a (r .go) (wordOf (r .x)) ⌝ }
 {
     let l = (w % 65536) as u16;
-    let b = undo::refuse_if(a, l == 0, Refusal::NothingBelow(1));
+    let b = undo::refuse_if(a, l == 0, Refusal::NothingBelow(c));
     read_at(cells, b, l)
 }
 
@@ -336,16 +394,16 @@ fn stays(cells: &mut [u64], log: &mut [u64], a: Acted, top: u16, x: Symbol) -> A
     requires { ⌜ Room (now log) 1 ⌝ }
     ensures { λ r. ⌜ Did (Top top) 1 (stays x) (now (cells .entry)) (now (log .entry)) a (now (cells .exit)) (now (log .exit)) r tt ⌝ }
 {
-    let w = own(cells, 1);
-    let b = has_below(a, 1, w);
+    let w = own(cells, limits::H0);
+    let b = has_below(a, limits::H0, w);
     let l = (w % 65536) as u16;
     let g = word_at(cells, b, l);
     let v = g.x;
     let d = g.go;
-    let e = undo::refuse_if(d, q1_for_hw(1, v), Refusal::WrongKind(l));
+    let e = undo::refuse_if(d, q1_for_hw(limits::H0, v), Refusal::WrongKind(l));
     let go = undo::refuse_if(e, reserved(top, l), Refusal::NotToBeFreed(l));
     let z = cells::of_fields((v / cells::P % 256) as u8, x.tag, x.num, l);
-    undo::put(cells, log, go, 1, z);
+    undo::put(cells, log, go, limits::H0, z);
     go
 }
 
@@ -354,7 +412,7 @@ pub fn gives1(cells: &mut [u64], log: &mut [u64], a: Acted, top: u16, x: Symbol)
     requires { ⌜ Room (now log) 6 ⌝ }
     ensures { λ r. ⌜ Did (Top top) 6 (gives 1 x) (now (cells .entry)) (now (log .entry)) a (now (cells .exit)) (now (log .exit)) r tt ⌝ }
 {
-    if cells::is_word(cells::peek(cells, 3)) {
+    if cells::is_word(cells::peek(cells, limits::H2)) {
         return stays(cells, log, a, top, x);
     }
     let b = pop(cells, log, a, top);

@@ -1,6 +1,6 @@
 -- A law for each way to join lines of a block.
 use mathlib.Core.Path.{_≡_, refl, ap, _∙_, sym, subst}
-use mathlib.Core.Bool.{Bool, true, false}
+use mathlib.Core.Bool.{Bool, true, false, _||_}
 use Rattle.paper.specs.declared.Fault.{Fault}
 use Rattle.paper.specs.Step.{Res, done, refused, _>>=_, _>>_, ret, refuse, refuseIf, ifThen, asks, becomes}
 use Rattle.paper.specs.Deck.{Book, Load}
@@ -8,7 +8,7 @@ use Rattle.cells.specs.Pack.{AllFormed}
 use Rattle.book.specs.declared.Judged.{Judged}
 use Rattle.book.specs.declared.Judged.the-variants.{Fine, Refused}
 use Rattle.book.specs.Kept.{Held, bookOf}
-use Rattle.book.specs.Did.{left, refusedBy, Always, Told, Did}
+use Rattle.book.specs.Did.{left, refusedBy, Told, Did}
 
 -- the same of books
 abbrev To : {A : Type 0} → Load A → Book → Judged → Book → Judged → A → Type 0
@@ -111,15 +111,6 @@ module _ {B : Type 0} where
   pub give : {h : Held} {a : Judged} {v : B} → Did (ret v) h a h a v
   give = record { is = refl; formed = λ f. f }
 
-  stopped : (f : Fault) (a : Judged) (t t′ : Book) (v : B) → (left a >> refuse f) t ≡ (left (refusedBy a f) >> ret v) t′
-  unfolding left _>>_ ret refuse
-  stopped f Fine t t′ v = refl
-  stopped f (Refused e) t t′ v = refl
-
-  pub stop : (f : Fault) {h : Held} {a r : Judged} {v : B} → r ≡ refusedBy a f → Did (refuse f) h a h r v
-  stop f {h} {a} {r} {v} p =
-      record { is = stopped f a (bookOf h) (bookOf h) v ∙ ap (λ (q : Judged). (left q >> ret v) (bookOf h)) (sym p); formed = λ g. g }
-
   passed : (M : Load B) (f : Fault) (t : Book) (v : B) → (left (Refused f) >> M) t ≡ (left (Refused f) >> ret v) t
   unfolding left _>>_ refuse
   passed M f t v = refl
@@ -160,6 +151,11 @@ unfolding left _>>_ ret refuse refuseIf
 told-no f Fine t = refl
 told-no f (Refused e) t = refl
 
+stays : (f : Fault) (N : Load (Unit {0})) (a : Judged) (t : Book) → (left a >> (refuseIf true f >> N)) t ≡ (left a >> refuseIf true f) t
+unfolding left _>>_ ret refuse refuseIf
+stays f N Fine t = refl
+stays f N (Refused e) t = refl
+
 module _ {K : Book → Type 0} where
   pub judged-yes : (b : Bool) (f : Fault) {a r : Judged} → b ≡ true → r ≡ refusedBy a f → Told K (refuseIf b f) a r
   judged-yes b f {a} {r} p q =
@@ -167,9 +163,6 @@ module _ {K : Book → Type 0} where
 
   pub judged-no : (b : Bool) (f : Fault) {a : Judged} → b ≡ false → Told K (refuseIf b f) a a
   judged-no b f {a} p = record { is = λ t k. ap (λ (x : Bool). (left a >> refuseIf x f) t) p ∙ told-no f a t }
-
-  pub told-stop : (f : Fault) {a r : Judged} → r ≡ refusedBy a f → Told K (refuse f) a r
-  told-stop f {a} {r} p = record { is = λ t k. stopped f a t t tt ∙ ap (λ (q : Judged). (left q >> ret tt) t) (sym p) }
 
   pub told-ret : {a : Judged} → Told K (ret tt) a a
   told-ret = record { is = λ t k. refl }
@@ -185,6 +178,12 @@ module _ {K : Book → Type 0} where
 
   pub when : {b c : Bool} (f : Fault) {a r : Judged} → b ≡ c → Told K (refuseIf b f) a r → Told K (refuseIf c f) a r
   when f {a} {r} p d = subst (λ (b : Bool). Told K (refuseIf b f) a r) p d
+
+  -- one test of the code for two lines of the block: y counts where x does not refuse
+  pub or-tells : (x y : Bool) (f : Fault) {N : Load (Unit {0})} {a r : Judged} → Told K (refuseIf (x || y) f) a r
+      → (Told K (refuseIf y f) a r → Told K N a r) → Told K (refuseIf x f >> N) a r
+  or-tells true y f {N} {a} {r} d e = record { is = λ t k. stays f N a t ∙ d .is t k }
+  or-tells false y f {N} {a} {r} d e = tells (judged-no false f refl) (e d)
 
   -- known of more
   pub under : {L : Book → Type 0} {M : Load (Unit {0})} {a r : Judged} → ((t : Book) → L t → K t) → Told K M a r → Told L M a r

@@ -1,15 +1,14 @@
 -- The cell of a regional symbol: along the regions of a table from number i on, and by letter.
 use Prim.Native.Nat.{ℕ, _+_, _<_, _≤_}
-use mathlib.Core.Bool.{Bool, true, false, cond}
+use mathlib.Core.Bool.{Bool, true, false, cond, _||_}
 use mathlib.Core.List.{List, [], _∷_}
-use mathlib.Core.Path.{_≡_, sym, _∙_}
+use mathlib.Core.Path.{_≡_, refl, sym, _∙_}
 use native.Mathlib.Omega.{arith}
-use borrow.Author.Tests.{lt-ltb, le-ltb, eq-eqb, ne-eqb}
+use borrow.Author.Tests.{lt-ltb, le-ltb, eq-eqb, ne-eqb, eqb-true}
 use lib.Dec.{eqb, ltb}
 use lib.ListN.{length, getD}
-use Rattle.paper.specs.Cell.{Region, endOfRegions}
-use Rattle.paper.specs.Step.{choose}
-use Rattle.paper.specs.Deck.{inDeck, within, cellOf}
+use Rattle.paper.specs.Limits.{largestN, firstDeck}
+use Rattle.paper.specs.Region.{Region, endOfRegions, H, W, J, cellFrom, cellOf}
 use Rattle.sound.specs.declared.Regions.{Regions}
 use Rattle.sound.specs.Table.{regionsOf}
 use Rattle.sound.proofs.TableLaws.{rest-more, rest-none}
@@ -26,43 +25,52 @@ yes-there t x y e = rw e
 not-there : (t : Bool) (x y : ℕ) → t ≡ false → _≡_ {A = ℕ} (elim t as (λ _. ℕ) [ true ↦ x | false ↦ y ]) y
 not-there t x y e = rw e
 
-pub more-fits : (r : Regions) (i : ℕ) → i < length (regionsOf r) → (from k : ℕ) → k ≡ getD (r .counts) i 0 → endOfRegions (rest r i) from ≤ 16384
-    → from + k ≤ 16384
+pub more-fits : (r : Regions) (i : ℕ) → i < length (regionsOf r) → (from k : ℕ) → k ≡ getD (r .counts) i 0 → endOfRegions (rest r i) from ≤ largestN
+    → from + k ≤ largestN
 more-fits r i here from k counts h = omega (arith, end-more r i here from k counts, past-start (rest r (i + 1)) (from + k))
 
 module _ (r : Regions) (i : ℕ) (here : i < length (regionsOf r)) (from k b n : ℕ) (counts : k ≡ getD (r .counts) i 0) where
-  hit : getD (r .letters) i 0 ≡ b → inDeck (rest r i) from b n ≡ cond (ltb n k) (from + n) 0
-  unfolding inDeck
+  hit : getD (r .letters) i 0 ≡ b → cellFrom (rest r i) from b n ≡ cond (ltb n k) (from + n) 0
+  unfolding cellFrom
   hit e = rw (rest-more r i here, counts) (yes-there (eqb (getD (r .letters) i 0) b) _ _ (eq-eqb (getD (r .letters) i 0) b e))
 
-  pub deck-here : getD (r .letters) i 0 ≡ b → n < k → inDeck (rest r i) from b n ≡ from + n
+  pub deck-here : getD (r .letters) i 0 ≡ b → n < k → cellFrom (rest r i) from b n ≡ from + n
   deck-here e h = hit e ∙ rw (lt-ltb n k h)
 
-  pub deck-past : getD (r .letters) i 0 ≡ b → k ≤ n → inDeck (rest r i) from b n ≡ 0
+  pub deck-past : getD (r .letters) i 0 ≡ b → k ≤ n → cellFrom (rest r i) from b n ≡ 0
   deck-past e h = hit e ∙ rw (le-ltb n k h)
 
-  pub deck-more : (getD (r .letters) i 0 ≡ b → ⊥) → inDeck (rest r (i + 1)) (from + k) b n ≡ inDeck (rest r i) from b n
-  unfolding inDeck
+  pub deck-more : (getD (r .letters) i 0 ≡ b → ⊥) → cellFrom (rest r (i + 1)) (from + k) b n ≡ cellFrom (rest r i) from b n
+  unfolding cellFrom
   deck-more e = rw (rest-more r i here, counts) (sym (not-there (eqb (getD (r .letters) i 0) b) _ _ (ne-eqb (getD (r .letters) i 0) b e)))
 
-pub deck-none : (r : Regions) (i from b n : ℕ) → length (regionsOf r) ≤ i → inDeck (rest r i) from b n ≡ 0
-unfolding inDeck
+pub deck-none : (r : Regions) (i from b n : ℕ) → length (regionsOf r) ≤ i → cellFrom (rest r i) from b n ≡ 0
+unfolding cellFrom
 deck-none r i from b n h = rw (rest-none r i h)
+
+-- no cell is one below those of the deck
+pub none-low : (c : ℕ) (d : Bool) → (ltb c firstDeck || d) ≡ (eqb c 0 || (ltb c firstDeck || d))
+none-low c d = go (eqb c 0) refl
+  where
+    go : (t : Bool) → eqb c 0 ≡ t → (ltb c firstDeck || d) ≡ (t || (ltb c firstDeck || d))
+    go true e = rw (eqb-true c 0 e)
+    go false e = refl
 
 -- by letter
 module _ (rs : List Region) (b n : ℕ) where
-  pub cell-H : b ≡ 72 → cellOf rs b n ≡ within n 10 (1 + n)
-  unfolding cellOf choose
+  pub cell-H : b ≡ 0x48 → cellOf rs b n ≡ cond (ltb n 10) (H n) 0
+  unfolding cellFrom
   cell-H e = rw e
 
-  pub cell-W : b ≡ 87 → cellOf rs b n ≡ within n 10 (11 + n)
-  unfolding cellOf choose
+  pub cell-W : b ≡ 0x57 → cellOf rs b n ≡ cond (ltb n 10) (W n) 0
+  unfolding cellFrom
   cell-W e = rw e
 
-  pub cell-J : b ≡ 74 → cellOf rs b n ≡ within n 200 (21 + n)
-  unfolding cellOf choose
+  pub cell-J : b ≡ 0x4A → cellOf rs b n ≡ cond (ltb n 200) (J n) 0
+  unfolding cellFrom
   cell-J e = rw e
 
-  pub cell-deck : (b ≡ 72 → ⊥) → (b ≡ 87 → ⊥) → (b ≡ 74 → ⊥) → cellOf rs b n ≡ inDeck rs 221 b n
-  unfolding cellOf choose
-  cell-deck h w j = rw (ne-eqb b 72 h, ne-eqb b 87 w, ne-eqb b 74 j, choose)
+  pub cell-deck : (b ≡ 0x48 → ⊥) → (b ≡ 0x57 → ⊥) → (b ≡ 0x4A → ⊥) → cellOf rs b n ≡ cellFrom rs firstDeck b n
+  unfolding cellFrom
+  cell-deck h w j =
+      rw (ne-eqb 0x48 b (λ e. h (sym e)), cellFrom, ne-eqb 0x57 b (λ e. w (sym e)), cellFrom, ne-eqb 0x4A b (λ e. j (sym e)))

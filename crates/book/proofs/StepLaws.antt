@@ -7,13 +7,14 @@ use borrow.Author.Tests.{ltb-true, ltb-false}
 use lib.Dec.{ltb}
 use lib.ListN.{set, replicate}
 use lib.Seq.{set-getD}
+use Rattle.paper.specs.Limits.{manyLocals}
 use Rattle.paper.specs.Cell.{Region, Cell, free, word, withLink, emptyWord, freeLink}
 use Rattle.paper.specs.Step.{becomes}
-use Rattle.paper.specs.Deck.{Book, noLocals, withCells, withLocal, withStructure, withWaiting, tookFirst, linked, linkUp, putCell}
+use Rattle.paper.specs.Deck.{noLocals, withCells, withLocal, withStructure, withWaiting, tookFirst, linked, linkUp, putCell}
 use Rattle.cells.specs.Layout.{unpackOf, wordOf, linkOf}
-use Rattle.cells.specs.Pack.{Packs, AllFormed}
+use Rattle.cells.specs.Pack.{Packs}
 use Rattle.cells.specs.Bridge.{unpacked, cellIn}
-use Rattle.cells.proofs.Laws.{unpack-word, unpack-free, unpack-integer, unpack-process}
+use Rattle.cells.proofs.Laws.{unpack-word, unpack-free, unpack-term, unpack-process}
 use Rattle.cells.proofs.Store.{unpacked-set, formed-set}
 use Rattle.book.specs.declared.Notes.{Notes}
 use Rattle.book.specs.declared.Judged.{Judged}
@@ -30,7 +31,7 @@ notes-local n c w {h} {k} e =
     (rw (e, local-set (h .notes .locals) (h .notes .filled) n c w)) (λ f. f)
 
 -- a structure is opened
-pub no-locals : localsOf (replicate 64 0) (replicate 64 false) ≡ noLocals
+pub no-locals : localsOf (replicate manyLocals 0) (replicate manyLocals false) ≡ noLocals
 unfolding localsOf
 no-locals = refl
 
@@ -59,7 +60,7 @@ other-kind c x h = go (ltb x (2 * 2 ^ 48)) (ltb x (3 * 2 ^ 48)) refl refl
   where
     go : (s t : Bool) → ltb x (2 * 2 ^ 48) ≡ s → ltb x (3 * 2 ^ 48) ≡ t → linked c (unpackOf x) ≡ unpackOf x
     go true t p q = rw (unpack-free x h (ltb-true x (2 * 2 ^ 48) p))
-    go false true p q = rw (unpack-integer x (ltb-false x (2 * 2 ^ 48) p) (ltb-true x (3 * 2 ^ 48) q))
+    go false true p q = rw (unpack-term x (ltb-false x (2 * 2 ^ 48) p) (ltb-true x (3 * 2 ^ 48) q))
     go false false p q = rw (unpack-process x (ltb-false x (3 * 2 ^ 48) q))
 
 module _ {rs : List Region} {k : Notes} {m : List Bool} {a : Judged} where

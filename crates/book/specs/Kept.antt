@@ -1,9 +1,10 @@
 -- What the code keeps while it loads, as the book of the definitions.
-use Prim.Native.Nat.{ℕ, _+_, _<_, _≤_}
+use Prim.Native.Nat.{ℕ, _≤_}
 use mathlib.Core.Bool.{Bool, true, false}
 use mathlib.Core.List.{List, [], _∷_}
 use mathlib.Core.Path.{_≡_}
-use lib.ListN.{length, set, replicate}
+use lib.ListN.{set, replicate}
+use Rattle.paper.specs.Limits.{largestN, firstDeck, manyLocals}
 use Rattle.paper.specs.Cell.{Region, endOfRegions}
 use Rattle.paper.specs.Deck.{LocalCell, Book}
 use Rattle.cells.specs.Bridge.{unpacked}
@@ -41,28 +42,25 @@ bookOf h =
 
 -- the notes before any word
 abbrev pub noNotes : Notes
-noNotes = record { words = false; opened = false; waiting = 0; locals = replicate 64 0; filled = replicate 64 false }
+noNotes = record { words = false; opened = false; waiting = 0; locals = replicate manyLocals 0; filled = replicate manyLocals false }
 
 abbrev pub localNoted : Notes → ℕ → ℕ → Bool → Notes
 localNoted k n c w =
     record { words = k .words; opened = k .opened; waiting = k .waiting; locals = set (k .locals) n c; filled = set (k .filled) n w }
 
 abbrev pub structureNoted : Notes → Notes
-structureNoted k = record { words = true; opened = true; waiting = k .waiting; locals = replicate 64 0; filled = replicate 64 false }
+structureNoted k = record { words = true; opened = true; waiting = k .waiting; locals = replicate manyLocals 0; filled = replicate manyLocals false }
 
 abbrev pub waitingNoted : Notes → ℕ → Notes
 waitingNoted k w = record { words = true; opened = k .opened; waiting = w; locals = k .locals; filled = k .filled }
 
 -- the table's regions end within 16,384 cells
 pub record Laid (r : Regions) : Type 0 where
-  pub ends : endOfRegions (regionsOf r) 221 ≤ 16384
+  pub ends : endOfRegions (regionsOf r) firstDeck ≤ largestN
 
 -- what a test knows of the book
 abbrev pub RegionsAre : Regions → Book → Type 0
 RegionsAre r t = t .regions ≡ regionsOf r
-
-abbrev pub OpenedIs : Notes → Book → Type 0
-OpenedIs k t = t .opened ≡ k .opened
 
 abbrev pub LocalsAre : Notes → Book → Type 0
 LocalsAre k t = t .locals ≡ localsOf (k .locals) (k .filled)

@@ -1,19 +1,7 @@
 // What a symbol of a deck tells by its class.
 ghost use mathlib.Core.Path.{_≡_};
-ghost use Rattle.paper.specs.Deck.{opens, dataTag, isBlank};
+ghost use Rattle.paper.specs.Deck.{dataTag, isBlank};
 use paper::Field;
-
-// "opens a structure": in NAME
-pub fn opens(f: Field) -> bool
-    ensures { λ r. ⌜ r ≡ opens f ⌝ }
-{
-    match f {
-        Field::Regional(_, _) => true,
-        Field::Local(_) => false,
-        Field::Zero => false,
-        Field::Blank => false,
-    }
-}
 
 // "P 0, Q 0 or 2 as SYMB is regional or local"; "a blank or `0` data SYMB makes an empty word"
 pub fn data_tag(f: Field) -> u8

@@ -1,20 +1,17 @@
 // What the loader keeps, and its small steps: document 01, "The deck".
 ghost use mathlib.Core.Path.{_≡_};
-ghost use mathlib.Core.Bool.{Bool, true, false, cond};
-ghost use mathlib.Core.List.{List};
-ghost use Prim.Native.Nat.{ℕ, _+_, _<_};
+ghost use mathlib.Core.Bool.{cond};
 ghost use lib.Dec.{eqb};
-ghost use lib.ListN.{getD, set};
-ghost use Rattle.paper.specs.Cell.{Region, Cell};
-ghost use Rattle.paper.specs.declared.Field.{Field};
+ghost use lib.ListN.{set};
+ghost use Rattle.paper.specs.Cell.{Cell};
 ghost use Rattle.cells.specs.Pack.{Packs};
 ghost use Rattle.paper.specs.Step.{refuseIf, ret, ifThen};
-ghost use Rattle.paper.specs.Deck.{localAt, allWords, takeCell, newLocal, mention, known, opens, hasStructure, nameFits, closes, cellFor};
-ghost use Rattle.paper.specs.Deck.{cellNamed, linkUp, fill};
+ghost use Rattle.paper.specs.Record.{inRegion, asLocal};
+ghost use Rattle.paper.specs.Deck.{localAt, allWords, takeCell, newLocal, mention, known, nameFits, closes, cellFor, cellNamed, linkUp, fill};
 ghost use Rattle.book.specs.declared.Notes.{Notes};
 ghost use Rattle.book.specs.declared.Judged.{Judged};
-ghost use Rattle.sound.specs.Table.{regionsOf};
-ghost use Rattle.book.specs.Kept.{localsOf, noNotes, localNoted, structureNoted, Laid, RegionsAre, OpenedIs, LocalsAre, NotedIn};
+ghost use Rattle.records.specs.Symbols.{nameOf};
+ghost use Rattle.book.specs.Kept.{localsOf, noNotes, localNoted, structureNoted, Laid, RegionsAre, LocalsAre, NotedIn};
 ghost use Rattle.book.specs.Did.{refusedBy, Always, Told, OnCells, OnNotes, OnTable, OnNames, OnAll};
 
 mod fields;
@@ -23,11 +20,12 @@ mod regions;
 
 pub use fields::data_tag;
 pub use fields::is_blank;
-use fields::opens;
 use names::mark;
 use names::named;
 use paper::Fault;
 use paper::Field;
+use paper::limits;
+use records::Name;
 pub use regions::cell_of;
 use sound::Regions;
 
@@ -43,8 +41,8 @@ pub struct Notes {
     pub words: bool,
     pub opened: bool,
     pub waiting: u16,
-    pub locals: [u16; 64],
-    pub filled: [bool; 64],
+    pub locals: [u16; limits::MANY_LOCALS],
+    pub filled: [bool; limits::MANY_LOCALS],
 }
 
 // What a step comes to. What it writes after a refusal does not count: a refused load zeroes every cell.
@@ -96,8 +94,8 @@ impl Notes {
             words: false,
             opened: false,
             waiting: 0,
-            locals: [0; 64],
-            filled: [false; 64],
+            locals: [0; limits::MANY_LOCALS],
+            filled: [false; limits::MANY_LOCALS],
         }
     }
 
@@ -106,7 +104,7 @@ impl Notes {
         ensures { λ r. ⌜ r ≡ localAt (localsOf (self .locals) (self .filled)) n .cell ⌝ }
     {
         let i = n as usize;
-        if i < 64 {
+        if i < limits::MANY_LOCALS {
             return self.locals[i];
         }
         0
@@ -116,7 +114,7 @@ impl Notes {
         ensures { λ r. ⌜ r ≡ localAt (localsOf (self .locals) (self .filled)) n .hasWord ⌝ }
     {
         let i = n as usize;
-        if i < 64 {
+        if i < limits::MANY_LOCALS {
             return self.filled[i];
         }
         false
@@ -126,7 +124,7 @@ impl Notes {
         ensures { λ r. ⌜ r ≡ localNoted self n c w ⌝ }
     {
         let i = n as usize;
-        if i < 64 {
+        if i < limits::MANY_LOCALS {
             self.locals[i] = c;
             self.filled[i] = w;
         }
@@ -141,8 +139,8 @@ impl Notes {
             words: true,
             opened: true,
             waiting: self.waiting,
-            locals: [0; 64],
-            filled: [false; 64],
+            locals: [0; limits::MANY_LOCALS],
+            filled: [false; limits::MANY_LOCALS],
         }
     }
 
@@ -151,7 +149,7 @@ impl Notes {
         ensures { λ r. ⌜ r ≡ allWords (localsOf (self .locals) (self .filled)) ⌝ }
     {
         let mut i = 0;
-        while i < 64 {
+        while i < limits::MANY_LOCALS {
             if (self.locals[i] != 0) & !self.filled[i] {
                 return false;
             }
@@ -165,11 +163,11 @@ impl Notes {
 fn take_cell(cells: &mut [u64], a: Judged) -> Taken
     ensures { λ r. ⌜ OnCells takeCell (now (cells .entry)) a (now (cells .exit)) (r .go) (r .c) ⌝ }
 {
-    let h = cells::word_in(cells::peek(cells, 3));
+    let h = cells::word_in(cells::peek(cells, limits::H2));
     let c = (h % 65536) as u16;
     let go = refuse_if(a, c == 0, Fault::NoCell);
     let next = cells::free_link(cells::peek(cells, c));
-    put(cells, 3, cells::with_link(h, next));
+    put(cells, limits::H2, cells::with_link(h, next));
     put(cells, c, cells::EMPTY);
     Taken { go: go, c: c }
 }
@@ -215,45 +213,37 @@ pub fn known(regions: Regions, a: Judged, f: Field) -> Judged
     }
 }
 
-// "a local with no structure open", in a record that has this name
-pub fn has_structure(notes: Notes, a: Judged, name: Field, f: Field) -> Judged
-    ensures { λ r. ⌜ Told (OpenedIs notes) (hasStructure (opens name) f) a r ⌝ }
-{
-    match f {
-        Field::Regional(_, _) => a,
-        Field::Local(_) => refuse_if(a, !(notes.opened | opens(name)), Fault::BadName),
-        Field::Zero => a,
-        Field::Blank => a,
-    }
-}
-
-// NAME: "one in H, W or J is 6"; "a name defined twice or out of place"
+// NAME: "a name defined twice or out of place"; a cell below those of the deck is none, or "one in H, W or J". A local in SYMB or LINK has a
+// structure open: each record that is loaded leaves one open (OpenLaws of `paper`).
 pub fn name_fits(
     names: &[bool],
     regions: Regions,
     notes: Notes,
     a: Judged,
     word: bool,
-    f: Field,
+    name: Name,
 ) -> Judged
     requires { ⌜ Laid regions ⌝ }
-    ensures { λ r. ⌜ Told (NotedIn regions notes (now (names .entry))) (nameFits word f) a r ⌝ }
+    ensures { λ r. ⌜ Told (NotedIn regions notes (now (names .entry))) (nameFits word (nameOf name)) a r ⌝ }
 {
     let w = notes.waiting;
-    match f {
-        Field::Regional(b, n) => {
+    match name {
+        Name::Regional(b, n) => {
             let c = cell_of(regions, b, n);
-            refuse_if(a, (w != 0) | (c < 221) | named(names, c), Fault::BadName)
+            refuse_if(
+                a,
+                (w != 0) | (c < limits::FIRST_DECK) | named(names, c),
+                Fault::BadName,
+            )
         }
-        Field::Local(n) => {
+        Name::Local(n) => {
             refuse_if(
                 a,
                 ((w != 0) & !word) | !notes.opened | notes.has_word(n),
                 Fault::BadName,
             )
         }
-        Field::Zero => refused(a, Fault::BadName),
-        Field::Blank => refuse_if(a, (w == 0) | !word, Fault::BadName),
+        Name::Blank => refuse_if(a, (w == 0) | !word, Fault::BadName),
     }
 }
 
@@ -273,7 +263,7 @@ fn open_structure(
     n: u16,
 ) -> Got
     requires { ⌜ Laid regions ⌝ }
-    ensures { λ r. ⌜ OnNames (cellFor (Field.Regional b n)) regions notes (now (names .entry)) a (r .notes) (now (names .exit)) (r .go) (r .c) ⌝ }
+    ensures { λ r. ⌜ OnNames (cellFor (inRegion b n)) regions notes (now (names .entry)) a (r .notes) (now (names .exit)) (r .go) (r .c) ⌝ }
 {
     let go = closes(notes, a);
     let c = cell_of(regions, b, n);
@@ -286,7 +276,7 @@ fn open_structure(
 }
 
 fn define_local(cells: &mut [u64], notes: Notes, a: Judged, n: u16) -> Got
-    ensures { λ r. ⌜ OnNotes (cellFor (Field.Local n)) notes (now (cells .entry)) a (r .notes) (now (cells .exit)) (r .go) (r .c) ⌝ }
+    ensures { λ r. ⌜ OnNotes (cellFor (asLocal n)) notes (now (cells .entry)) a (r .notes) (now (cells .exit)) (r .go) (r .c) ⌝ }
 {
     let g = mention(cells, notes, a, n);
     let c = g.c;
@@ -306,20 +296,16 @@ pub fn cell_for(
     regions: Regions,
     notes: Notes,
     a: Judged,
-    f: Field,
+    name: Name,
 ) -> Got
     requires { ⌜ Laid regions ⌝ }
-    ensures { λ r. ⌜ OnAll (cellFor f) regions notes (now (cells .entry)) (now (names .entry)) a (r .notes) (now (cells .exit)) (now (names .exit)) (r .go) (r .c) ⌝ }
+    ensures { λ r. ⌜ OnAll (cellFor (nameOf name)) regions notes (now (cells .entry)) (now (names .entry)) a
+        (r .notes) (now (cells .exit)) (now (names .exit)) (r .go) (r .c) ⌝ }
 {
-    match f {
-        Field::Regional(b, n) => open_structure(names, regions, notes, a, b, n),
-        Field::Local(n) => define_local(cells, notes, a, n),
-        Field::Zero => Got {
-            go: refused(a, Fault::BadName),
-            notes: notes,
-            c: 0,
-        },
-        Field::Blank => {
+    match name {
+        Name::Regional(b, n) => open_structure(names, regions, notes, a, b, n),
+        Name::Local(n) => define_local(cells, notes, a, n),
+        Name::Blank => {
             let t = take_cell(cells, a);
             let go = t.go;
             Got {

@@ -5,16 +5,16 @@ use mathlib.Core.Path.{_≡_, refl, ap, _∙_, sym}
 use native.Mathlib.Omega.{arith}
 use borrow.Author.Tests.{lt-ltb, le-ltb, ltb-true, ltb-false}
 use lib.Dec.{ltb}
-use lib.IntN.{pos, negsuc}
-use Rattle.paper.specs.Cell.{Word, mkWord, Cell, free, word, integer, process}
-use Rattle.cells.specs.Layout.{unpackOf, wordOf, linkOf, symbOf, qOf, pOf, valueOf}
-use Rattle.cells.specs.Pack.{excess, packOf, WordFits, IntegerFits, CellFits, Valid, a-word, a-free, an-integer, a-process, Packs}
+use lib.IntN.{ℤ, pos, negsuc}
+use Rattle.paper.specs.Cell.{Word, mkWord, Cell, free, word, term, integer, process, wordIn, linkIn}
+use Rattle.cells.specs.Layout.{unpackOf, wordOf, linkOf, symbOf, qOf, pOf, valueOf, termOf}
+use Rattle.cells.specs.Pack.{excess, packOf, WordFits, IntegerFits, CellFits, Valid, a-word, a-free, a-term, a-process, Packs}
 
 -- a function of the cell, by the kind of its number: this gives all tests and parts
 pub by-kind : {A : Type 0} (f : Cell → A) (x : ℕ)
     → f (unpackOf x)
     ≡ cond (ltb x (2 ^ 48)) (f (word (wordOf x)))
-    (cond (ltb x (2 * 2 ^ 48)) (f (free (linkOf x))) (cond (ltb x (3 * 2 ^ 48)) (f (integer (valueOf (x % 2 ^ 32)))) (f process)))
+    (cond (ltb x (2 * 2 ^ 48)) (f (free (linkOf x))) (cond (ltb x (3 * 2 ^ 48)) (f (term (termOf (x % 2 ^ 32)))) (f process)))
 unfolding unpackOf
 by-kind {A} f x =
     over (ltb x (2 ^ 48)) _ _
@@ -41,9 +41,9 @@ pub unpack-free : (x : ℕ) → 2 ^ 48 ≤ x → x < 2 * 2 ^ 48 → unpackOf x �
 unfolding unpackOf
 unpack-free x g h = simp (le-ltb x (2 ^ 48) g, lt-ltb x (2 * 2 ^ 48) h)
 
-pub unpack-integer : (x : ℕ) → 2 * 2 ^ 48 ≤ x → x < 3 * 2 ^ 48 → unpackOf x ≡ integer (valueOf (x % 2 ^ 32))
+pub unpack-term : (x : ℕ) → 2 * 2 ^ 48 ≤ x → x < 3 * 2 ^ 48 → unpackOf x ≡ term (termOf (x % 2 ^ 32))
 unfolding unpackOf
-unpack-integer x g h = simp (le-ltb x (2 ^ 48) (omega arith), le-ltb x (2 * 2 ^ 48) g, lt-ltb x (3 * 2 ^ 48) h)
+unpack-term x g h = simp (le-ltb x (2 ^ 48) (omega arith), le-ltb x (2 * 2 ^ 48) g, lt-ltb x (3 * 2 ^ 48) h)
 
 pub unpack-process : (x : ℕ) → 3 * 2 ^ 48 ≤ x → unpackOf x ≡ process
 unfolding unpackOf
@@ -82,16 +82,16 @@ word-pack w f =
 pub unpack-pack : (c : Cell) → CellFits c → unpackOf (packOf c) ≡ c
 unpack-pack (free l) f = unpack-free (2 ^ 48 + l) (omega arith) (omega arith) ∙ ap free (omega arith)
 unpack-pack (word w) f = unpack-word (packOf (word w)) (omega arith) ∙ ap word (word-pack w f)
-unpack-pack (integer (pos n)) f =
+unpack-pack (term (integer (pos n))) f =
     let x = 2 * 2 ^ 48 + (2 ^ 31 + n) in
     let e : x % 2 ^ 32 ≡ 2 ^ 31 + n = omega arith in
     let g : 2 ^ 31 + n - 2 ^ 31 ≡ n = omega arith in
-    unpack-integer x (omega arith) (omega arith) ∙ ap integer (ap valueOf e ∙ value-high (2 ^ 31 + n) (omega arith) ∙ ap pos g)
-unpack-pack (integer (negsuc n)) f =
+    unpack-term x (omega arith) (omega arith) ∙ ap (λ (z : ℤ). term (integer z)) (ap valueOf e ∙ value-high (2 ^ 31 + n) (omega arith) ∙ ap pos g)
+unpack-pack (term (integer (negsuc n))) f =
     let x = 2 * 2 ^ 48 + (2 ^ 31 - suc n) in
     let e : x % 2 ^ 32 ≡ 2 ^ 31 - suc n = omega arith in
     let g : 2 ^ 31 - suc (2 ^ 31 - suc n) ≡ n = omega arith in
-    unpack-integer x (omega arith) (omega arith) ∙ ap integer (ap valueOf e ∙ value-low (2 ^ 31 - suc n) (omega arith) ∙ ap negsuc g)
+    unpack-term x (omega arith) (omega arith) ∙ ap (λ (z : ℤ). term (integer z)) (ap valueOf e ∙ value-low (2 ^ 31 - suc n) (omega arith) ∙ ap negsuc g)
 unpack-pack process f = unpack-process (3 * 2 ^ 48) (omega arith)
 
 -- a word's number is the sum of its fields
@@ -111,9 +111,9 @@ fields-sum x = omega (arith, split-48 x, split-40 x, split-32 x)
 pub pack-unpack : (x : ℕ) → Valid x → packOf (unpackOf x) ≡ x
 pack-unpack x (a-word h) = ap packOf (unpack-word x h) ∙ sym (fields-sum x) ∙ omega arith
 pack-unpack x (a-free g h) = ap packOf (unpack-free x g (omega arith)) ∙ omega arith
-pack-unpack x (an-integer g h) =
+pack-unpack x (a-term g h) =
     let e : x % 2 ^ 32 ≡ x - 2 * 2 ^ 48 = omega arith in
-    ap packOf (unpack-integer x g (omega arith)) ∙ ap (λ (a : ℕ). 2 * 2 ^ 48 + a) (excess-value (x % 2 ^ 32) ∙ e) ∙ omega arith
+    ap packOf (unpack-term x g (omega arith)) ∙ ap (λ (a : ℕ). 2 * 2 ^ 48 + a) (excess-value (x % 2 ^ 32) ∙ e) ∙ omega arith
 pack-unpack x (a-process e) = ap packOf (unpack-process x (omega arith)) ∙ sym e
 
 -- what the makers of numbers answer
@@ -126,5 +126,15 @@ pub packs-word : (p q s l : ℕ) {r : ℕ} → p < 2 ^ 8 → q < 2 ^ 8 → s < 2
     → Packs r (word (mkWord p q s l))
 packs-word p q s l a b c d e = packs (word (mkWord p q s l)) (record { p = a; q = b; symb = c; link = d }) e
 
-pub packs-integer : (a : ℕ) {r : ℕ} → a < 2 ^ 32 → r ≡ 2 * 2 ^ 48 + a → Packs r (integer (valueOf a))
-packs-integer a h e = packs (integer (valueOf a)) (value-fits a h) (e ∙ ap (λ (n : ℕ). 2 * 2 ^ 48 + n) (sym (excess-value a)))
+pub packs-term : (a : ℕ) {r : ℕ} → a < 2 ^ 32 → r ≡ 2 * 2 ^ 48 + a → Packs r (term (termOf a))
+packs-term a h e = packs (term (termOf a)) (value-fits a h) (e ∙ ap (λ (n : ℕ). 2 * 2 ^ 48 + n) (sym (excess-value a)))
+
+-- the LINK of a cell, by the word in it
+pub link-in : (x : Cell) (w : ℕ) → wordIn x ≡ wordOf w → linkIn x ≡ linkOf w
+link-in x w e = go x ∙ ap (λ (v : Word). v .link) e
+  where
+    go : (x : Cell) → linkIn x ≡ wordIn x .link
+    go (free l) = refl
+    go (word v) = refl
+    go (term t) = refl
+    go process = refl

@@ -1,8 +1,8 @@
 // A cell in one number (specs/Layout): read, tested, taken apart and made.
 ghost use mathlib.Core.Path.{_≡_};
-ghost use Rattle.paper.specs.Cell.{word, free, integer, process, mkWord, withLink, withSymbol, symbolOf, isFree, isWord, isInteger, isProcess};
-ghost use Rattle.paper.specs.Cell.{wordIn, integerIn, freeLink};
-ghost use Rattle.cells.specs.Layout.{unpackOf, wordOf, valueOf};
+ghost use Rattle.paper.specs.Cell.{word, free, term, process, mkWord, withLink, withSymbol, symbolOf, isFree, isWord, isTerm, isProcess};
+ghost use Rattle.paper.specs.Cell.{wordIn, termIn, freeLink};
+ghost use Rattle.cells.specs.Layout.{unpackOf, wordOf, termOf};
 ghost use Rattle.cells.specs.Pack.{Packs, cellOf};
 ghost use Rattle.cells.specs.Bridge.{cellIn};
 use paper::Symbol;
@@ -17,7 +17,7 @@ pub const P: u64 = 0x10000000000;
 // The kinds, from bit 48 up: a number below FREE is a word.
 pub const FREE: u64 = 0x1000000000000;
 
-pub const INTEGER: u64 = 0x2000000000000;
+pub const TERM: u64 = 0x2000000000000;
 
 pub const PROCESS: u64 = 0x3000000000000;
 
@@ -34,11 +34,11 @@ pub struct Word {
     pub link: u16,
 }
 
-// A cell taken apart. An integer is its value + 2^31, as everywhere in the code.
+// A cell taken apart. A data term is its 32 bits: an integer as its value + 2^31, as everywhere in the code.
 pub enum Cell {
     Free(u16),
     Word(Word),
-    Integer(u32),
+    Term(u32),
     Process,
 }
 
@@ -56,7 +56,7 @@ pub fn peek(cells: &[u64], c: u16) -> u64
 pub fn is_free(x: u64) -> bool
     ensures { λ r. ⌜ r ≡ isFree (unpackOf x) ⌝ }
 {
-    FREE <= x && x < INTEGER
+    FREE <= x && x < TERM
 }
 
 pub fn is_word(x: u64) -> bool
@@ -65,10 +65,10 @@ pub fn is_word(x: u64) -> bool
     x < FREE
 }
 
-pub fn is_integer(x: u64) -> bool
-    ensures { λ r. ⌜ r ≡ isInteger (unpackOf x) ⌝ }
+pub fn is_term(x: u64) -> bool
+    ensures { λ r. ⌜ r ≡ isTerm (unpackOf x) ⌝ }
 {
-    INTEGER <= x && x < PROCESS
+    TERM <= x && x < PROCESS
 }
 
 pub fn is_process(x: u64) -> bool
@@ -90,11 +90,11 @@ pub fn word_in(x: u64) -> u64
     EMPTY
 }
 
-// The integer in a cell, as its value + 2^31; 0 where there is none.
-pub fn integer_in(x: u64) -> u32
-    ensures { λ r. ⌜ integerIn (unpackOf x) ≡ valueOf r ⌝ }
+// The data term in a cell; the integer 0 where there is none.
+pub fn term_in(x: u64) -> u32
+    ensures { λ r. ⌜ termIn (unpackOf x) ≡ termOf r ⌝ }
 {
-    if x < INTEGER {
+    if x < TERM {
         return ZERO;
     }
     if x < PROCESS {
@@ -109,7 +109,7 @@ pub fn free_link(x: u64) -> u16
     if x < FREE {
         return 0;
     }
-    if x < INTEGER {
+    if x < TERM {
         return (x % 65536) as u16;
     }
     0
@@ -155,10 +155,10 @@ pub fn of_free(l: u16) -> u64
     FREE + (l as u64)
 }
 
-pub fn of_integer(v: u32) -> u64
-    ensures { λ r. ⌜ Packs r (integer (valueOf v)) ⌝ }
+pub fn of_term(v: u32) -> u64
+    ensures { λ r. ⌜ Packs r (term (termOf v)) ⌝ }
 {
-    INTEGER + (v as u64)
+    TERM + (v as u64)
 }
 
 pub fn of_process() -> u64
@@ -178,11 +178,11 @@ pub fn unpack(x: u64) -> Cell
             link: (x % 65536) as u16,
         });
     }
-    if x < INTEGER {
+    if x < TERM {
         return Cell::Free((x % 65536) as u16);
     }
     if x < PROCESS {
-        return Cell::Integer((x % Q) as u32);
+        return Cell::Term((x % Q) as u32);
     }
     Cell::Process
 }
@@ -193,7 +193,7 @@ pub fn pack(c: Cell) -> u64
     match c {
         Cell::Free(l) => of_free(l),
         Cell::Word(w) => of_fields(w.p, w.q, w.symb, w.link),
-        Cell::Integer(v) => of_integer(v),
+        Cell::Term(v) => of_term(v),
         Cell::Process => of_process(),
     }
 }

@@ -7,6 +7,7 @@ use native.Mathlib.Omega.{arith}
 use native.Mathlib.Decide.{ℕ-discrete}
 use lib.ListN.{length, getD, set, replicate, getD-replicate, length-replicate}
 use lib.Seq.{getD-set-same, getD-set-other, ext-getD}
+use Rattle.paper.specs.Limits.{firstDeck}
 use Rattle.paper.specs.Cell.{Region, endOfRegions, Cell, word, emptyWord}
 use Rattle.paper.specs.Deck.{freshCell, cellsFrom, fresh, freshBook}
 use Rattle.cells.specs.Layout.{unpackOf}
@@ -61,7 +62,7 @@ laid f s n e h = (laid-cells f s 0 each ∙ ap (λ (k : ℕ). cellsFrom f k 0) e
     each j b = let z : 0 + j ≡ j = omega arith in rw z (h j (omega arith))
 
 -- the book before any word
-pub begun : (rs : List Region) (k : Notes) (s : List ℕ) (m m′ : List Bool) (n e : ℕ) → e ≡ endOfRegions rs 221
+pub begun : (rs : List Region) (k : Notes) (s : List ℕ) (m m′ : List Bool) (n e : ℕ) → e ≡ endOfRegions rs firstDeck
     → unpacked s ≡ cellsFrom (freshCell n e) n 0
     → m′ ≡ replicate (length m) false → length m ≡ n → k ≡ noNotes → bookOf (held rs k s m′) ≡ freshBook n rs
 unfolding fresh

@@ -10,6 +10,7 @@ use lib.ListN.{length, take, replicate, length-replicate}
 use lib.Seq.{length-take-le}
 use Rattle.paper.specs.declared.Fault.{Fault}
 use Rattle.paper.specs.declared.LoadAnswer.the-variants.{Loaded as AnswerLoaded, BadSize, Broken}
+use Rattle.paper.specs.Limits.{smallestN, largestN}
 use Rattle.paper.specs.Cell.{word, zeros, sizeFits}
 use Rattle.paper.specs.Deck.{LoadOutcome, load, ending, records, freshBook}
 use Rattle.cells.specs.Pack.{packed}
@@ -25,8 +26,8 @@ use Rattle.deck.specs.declared.Loaded.{Loaded}
 use Rattle.deck.specs.Load.{tableFrom, outcomeOf, Ends, Loads}
 
 -- the test of N
-pub in-range : (n : ℕ) (b : Bool) → b ≡ sizeFits n → not b ≡ false → n ≤ 16384
-in-range n b e h = leb-true n 16384 (second (leb 256 n) (leb n 16384) (sym e ∙ not-false b h))
+pub in-range : (n : ℕ) (b : Bool) → b ≡ sizeFits n → not b ≡ false → n ≤ largestN
+in-range n b e h = leb-true n largestN (second (leb smallestN n) (leb n largestN) (sym e ∙ not-false b h))
   where
     second : (s t : Bool) → (s && t) ≡ true → t ≡ true
     second true t e = e

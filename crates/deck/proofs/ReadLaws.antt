@@ -13,7 +13,7 @@ use Rattle.paper.specs.declared.Fault.{Fault}
 use Rattle.paper.specs.declared.Fault.the-variants.{PastEnd, UnknownKind, BadField, NotEnded}
 use Rattle.paper.specs.Step.{Res, done, refused, _>>=_, _>>_, refuse, refuseIf, ret}
 use Rattle.paper.specs.Record.{byteAt, sizeOf, recordAt}
-use Rattle.paper.specs.Deck.{Book, Load, Ended, complete, broken, onRes, closing, records, freshBook, loadOne, given}
+use Rattle.paper.specs.Deck.{Book, Load, Ended, complete, broken, onRes, closing, records, freshBook, loadOne, wellFormed}
 use Rattle.sound.specs.declared.Regions.{Regions}
 use Rattle.sound.specs.Table.{regionsOf}
 use Rattle.book.specs.declared.Judged.the-variants.{Fine, Refused}
@@ -79,7 +79,7 @@ turned-whole size kind r n h d =
     record { did = record { is = whole size kind r _ n h ∙ d .did .is; formed = d .did .formed }; made = d .made }
 
 pub not-written : (size : ℕ) (o : Option _) (b : Book) → o ≡ none → oneParsed size o b ≡ refused BadField
-unfolding oneParsed given _>>=_ refuse
+unfolding oneParsed wellFormed _>>=_ refuse
 not-written size o b e = rw e
 
 -- the loop has come to offset `at` with the book b

@@ -6,19 +6,19 @@ use mathlib.Core.Path.{_≡_, refl, ap, sym, _∙_, subst}
 use native.Mathlib.Omega.{arith}
 use lib.ListN.{set}
 use Rattle.paper.specs.Cell.{Region, Cell, word, mkWord, H, J}
-use Rattle.paper.specs.Step.{becomes}
+use Rattle.paper.specs.declared.Fault.{Fault}
+use Rattle.paper.specs.Step.{_>>_, refuseIf, becomes}
 use Rattle.paper.specs.Deck.{Load, withCells, freshBook}
 use Rattle.cells.specs.Pack.{Packs, AllFormed}
-use Rattle.cells.specs.Bridge.{unpacked}
 use Rattle.cells.proofs.Store.{unpacked-set, formed-set}
 use Rattle.book.specs.declared.Notes.{Notes}
 use Rattle.book.specs.declared.Judged.{Judged}
-use Rattle.book.specs.declared.Judged.the-variants.{Fine}
-use Rattle.book.specs.Kept.{held, bookOf}
-use Rattle.book.specs.Did.{Did}
+use Rattle.book.specs.declared.Judged.the-variants.{Fine, Refused}
+use Rattle.book.specs.Kept.{Held, held, bookOf}
+use Rattle.book.specs.Did.{Always, Did}
 use Rattle.deck.specs.declared.Turn.{Turn}
 use Rattle.deck.specs.Load.{ordinary, Made, Turned}
-use Rattle.book.proofs.DidLaws.{changes, then, give, giving}
+use Rattle.book.proofs.DidLaws.{changes, then, test, skipped, judged-yes, judged-no, give, giving}
 use Rattle.sound.specs.declared.Regions.{Regions}
 use Rattle.sound.specs.Table.{regionsOf}
 
@@ -38,11 +38,17 @@ pub lays : (size : ℕ) (x : Region) {rs : List Region} {k k′ : Notes} {s s′
     → Did (becomes (λ b. freshBook size (b .regions ++ (x ∷ [])))) (held rs k s m) a (held rs′ k′ s′ m′) a tt
 lays size x {rs} {k} {k′} {s} {s′} {m} {m′} rs′ e b f = changes _ (held rs k s m) (held rs′ k′ s′ m′) (ap (freshBook size) (sym e) ∙ sym b) (λ _. f)
 
--- neither of three
-pub none-holds : (a b c : Bool) → (a || b || c) ≡ false → (a ≡ false) × (c ≡ false)
+-- none of three
+pub none-holds : (a b c : Bool) → (a || b || c) ≡ false → (a ≡ false) × (b ≡ false) × (c ≡ false)
 none-holds true b c e = let z : _≡_ {A = ℕ} 0 1 = cc in absurd (omega arith)
 none-holds false true c e = let z : _≡_ {A = ℕ} 0 1 = cc in absurd (omega arith)
-none-holds false false c e = (refl, e)
+none-holds false false c e = (refl, refl, e)
+
+-- one test of the code for two lines of the block: y counts where x does not refuse
+pub or-stops : (x y : Bool) (f : Fault) {N : Load (Unit {0})} {h : Held} → (x || y) ≡ true → (y ≡ true → Did N h Fine h (Refused f) tt)
+    → Did (refuseIf x f >> N) h Fine h (Refused f) tt
+or-stops true y f e d = test (judged-yes {K = Always} true f refl refl) tt skipped
+or-stops false y f e d = test (judged-no {K = Always} false f refl) tt (d e)
 
 -- a record that is not the start
 pub turned : {M : Load (Unit {0})} {t : Regions} {k : Notes} {s s′ : List ℕ} {m m′ : List Bool} {r : Turn} → r .last ≡ false → Made (r .regions)

@@ -8,9 +8,8 @@ use native.Mathlib.Decide.{ℕ-discrete, decLt}
 use borrow.Author.Tests.{eq-eqb, leb-true}
 use lib.Dec.{eqb, leb}
 use lib.ListN.{length, length-append}
-use Rattle.paper.specs.Cell.{Region, endOfRegions}
-use Rattle.paper.specs.Sound.{isLetter}
-use Rattle.paper.specs.Deck.{letterTaken}
+use Rattle.paper.specs.Limits.{largestN, firstDeck}
+use Rattle.paper.specs.Region.{Region, endOfRegions, isLetter, layout, letterTaken}
 use Rattle.paper.proofs.RegionLaws.{end-more}
 use Rattle.sound.specs.declared.Regions.{Regions}
 use Rattle.sound.specs.Table.{regionsOf, noRegions, withRegion}
@@ -31,8 +30,8 @@ taken-more (x ∷ xs) r b =
 
 -- a letter more leaves one less
 module _ (rs : List Region) (r : Region) where
-  none-new : (b : ℕ) → cond (letterTaken (rs ++ (r ∷ [])) b) 0 1 ≤ cond (letterTaken rs b) 0 1
-  none-new b = rw (taken-more rs r b) (go (eqb (r .letter) b) (letterTaken rs b))
+  none-new : (b : ℕ) → cond (letterTaken (layout (rs ++ (r ∷ []))) b) 0 1 ≤ cond (letterTaken (layout rs) b) 0 1
+  none-new b = rw (taken-more (layout rs) r b) (go (eqb (r .letter) b) (letterTaken (layout rs) b))
     where
       go : (s t : Bool) → cond (s || t) 0 1 ≤ cond t 0 1
       go true true = omega arith
@@ -44,14 +43,15 @@ module _ (rs : List Region) (r : Region) where
   no-more b zero = omega arith
   no-more b (suc k) = omega (arith, none-new b, no-more (b + 1) k)
 
-  one-less : (b k : ℕ) → letterTaken rs (r .letter) ≡ false → b ≤ r .letter → r .letter < b + k → unused (rs ++ (r ∷ [])) b k + 1 ≤ unused rs b k
+  one-less : (b k : ℕ) → letterTaken (layout rs) (r .letter) ≡ false → b ≤ r .letter → r .letter < b + k → unused (rs ++ (r ∷ [])) b k + 1 ≤ unused rs b k
   unfolding unused
   one-less b zero t g h = absurd (omega arith)
   one-less b (suc k) t g h = go (ℕ-discrete b (r .letter)) (λ (p : b + 1 ≤ r .letter). one-less (b + 1) k t p (omega arith))
     where
       go : Dec (b ≡ r .letter) → (b + 1 ≤ r .letter → unused (rs ++ (r ∷ [])) (b + 1) k + 1 ≤ unused rs (b + 1) k)
-          → cond (letterTaken (rs ++ (r ∷ [])) b) 0 1 + unused (rs ++ (r ∷ [])) (b + 1) k + 1 ≤ cond (letterTaken rs b) 0 1 + unused rs (b + 1) k
-      go (yes e) f = rw (taken-more rs r b, e, t, eq-eqb (r .letter) (r .letter) refl) (omega (arith, no-more (r .letter + 1) k))
+          → cond (letterTaken (layout (rs ++ (r ∷ []))) b) 0 1 + unused (rs ++ (r ∷ [])) (b + 1) k + 1
+          ≤ cond (letterTaken (layout rs) b) 0 1 + unused rs (b + 1) k
+      go (yes e) f = rw (taken-more (layout rs) r b, e, t, eq-eqb (r .letter) (r .letter) refl) (omega (arith, no-more (r .letter + 1) k))
       go (no n) f = omega (arith, none-new b, f (omega arith))
 
 table-more : (t : Regions) (rs : List Region) (r : Region) → tableFrom t (rs ++ (r ∷ [])) ≡ withRegion (tableFrom t rs) (r .letter) (r .count)
@@ -68,7 +68,7 @@ made-none =
       made = rw none-held;
     }
   where
-    ends : endOfRegions (regionsOf noRegions) 221 ≤ 16384
+    ends : endOfRegions (regionsOf noRegions) firstDeck ≤ largestN
     ends = rw none-held (omega arith)
 
     room : length (regionsOf noRegions) + unused (regionsOf noRegions) 65 26 ≤ 23
@@ -76,7 +76,7 @@ made-none =
 
 -- one region more
 module _ (r : Regions) (b n : ℕ) (ls : length (r .letters) ≡ 23) (cs : length (r .counts) ≡ 23) (h : Made r) (letter : isLetter b ≡ true)
-    (new : letterTaken (regionsOf r) b ≡ false) where
+    (new : letterTaken (layout (regionsOf r)) b ≡ false) where
   abbrev added : Region
   added = record { letter = b; count = n }
 
@@ -99,10 +99,10 @@ module _ (r : Regions) (b n : ℕ) (ls : length (r .letters) ≡ 23) (cs : lengt
   pub listed : regionsOf (withRegion r b n) ≡ regionsOf r ++ (added ∷ [])
   listed = one-more r b n not-full ls cs
 
-  pub made-more : endOfRegions (regionsOf r) 221 + n ≤ 16384 → Made (withRegion r b n)
+  pub made-more : endOfRegions (regionsOf r) firstDeck + n ≤ largestN → Made (withRegion r b n)
   made-more fits =
       record {
-        laid = record { ends = rw (listed, end-more (regionsOf r) added 221) fits };
+        laid = record { ends = rw (listed, end-more (regionsOf r) added firstDeck) fits };
         room = rw (listed, length-append (regionsOf r) (added ∷ [])) (omega (arith, fewer, h .room));
         made = ap (λ (t : Regions). withRegion t b n) (h .made) ∙ sym (ap tableOf listed ∙ table-more noRegions (regionsOf r) added);
       }

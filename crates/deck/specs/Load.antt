@@ -9,10 +9,11 @@ use Rattle.paper.specs.declared.Fault.{Fault}
 use Rattle.paper.specs.declared.Fault.the-variants.{NotEnded}
 use Rattle.paper.specs.declared.LoadAnswer.the-variants.{Loaded as AnswerLoaded, Broken}
 use Rattle.paper.specs.Cell.{Region, word, zeros, sizeFits}
-use Rattle.paper.specs.Sound.{isLetter}
+use Rattle.paper.specs.Limits.{largestN}
+use Rattle.paper.specs.Region.{isLetter, layout, letterTaken}
 use Rattle.paper.specs.Step.{_>>=_, _>>_, ret}
 use Rattle.paper.specs.Record.{Record as PaperRecord}
-use Rattle.paper.specs.Deck.{Load, LoadOutcome, load, ending, records, freshBook, letterTaken, given, loadRecord, isStart}
+use Rattle.paper.specs.Deck.{Load, LoadOutcome, load, ending, records, freshBook, wellFormed, loadRecord, isStart}
 use Rattle.cells.specs.Pack.{packed, AllFormed}
 use Rattle.cells.specs.Bridge.{unpacked}
 use Rattle.sound.specs.declared.Regions.{Regions}
@@ -54,7 +55,7 @@ unfoldable pub oneRecord : ℕ → PaperRecord → Load Bool
 oneRecord size x = loadRecord size x >> ret (isStart x)
 
 unfoldable pub oneParsed : ℕ → Option PaperRecord → Load Bool
-oneParsed size o = given o >>= oneRecord size
+oneParsed size o = wellFormed o >>= oneRecord size
 
 -- a record that is refused
 abbrev pub stopped : Regions → Notes → Fault → Turn
@@ -80,7 +81,7 @@ outcomeOf size (Refused f) at r s = record { answer = Broken f at; cells = repli
 -- how many of the k letters from b on can still be those of a region
 unfoldable pub unused : List Region → ℕ → ℕ → ℕ
 unused rs b zero = 0
-unused rs b (suc k) = cond (letterTaken rs b) 0 1 + unused rs (b + 1) k
+unused rs b (suc k) = cond (letterTaken (layout rs) b) 0 1 + unused rs (b + 1) k
 
 -- a table that the loader made: its regions end within 16,384 cells, and each letter that it holds is one less to come
 pub record Made (r : Regions) : Type 0 where
@@ -95,7 +96,7 @@ pub record Turned (M : Load Bool) (t : Regions) (k : Notes) (s : List ℕ) (m : 
 
 -- cells in range, and a mark for each
 pub record Sized (s : List ℕ) (m : List Bool) : Type 0 where
-  pub few : length s ≤ 16384
+  pub few : length s ≤ largestN
   pub marks : length m ≡ length s
 
 -- "letter": what a region record that was parsed has

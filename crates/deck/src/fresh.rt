@@ -3,6 +3,7 @@ ghost use mathlib.Core.Path.{_≡_};
 ghost use mathlib.Core.Bool.{false};
 ghost use Prim.Native.Nat.{_≤_};
 ghost use lib.ListN.{length, replicate};
+ghost use Rattle.paper.specs.Limits.{largestN};
 ghost use Rattle.paper.specs.Deck.{nextFree, freshCell, cellsFrom, freshBook};
 ghost use Rattle.cells.specs.Pack.{Packs, AllFormed};
 ghost use Rattle.cells.specs.Bridge.{unpacked};
@@ -10,10 +11,18 @@ ghost use Rattle.sound.specs.Table.{regionsOf};
 ghost use Rattle.book.specs.Kept.{held, bookOf};
 ghost use Rattle.deck.specs.Load.{Sized};
 use book::Notes;
+use paper::limits;
 use sound::Regions;
 
+// Cells in the width of an index.
+const H2: usize = limits::H2 as usize;
+
+const J0: usize = limits::J0 as usize;
+
+const FIRST_DECK: usize = limits::FIRST_DECK as usize;
+
 fn next_free(size: usize, c: usize) -> u16
-    requires { ⌜ size ≤ 16384 ⌝ }
+    requires { ⌜ size ≤ largestN ⌝ }
     ensures { λ r. ⌜ r ≡ nextFree size c ⌝ }
 {
     if c < size {
@@ -22,33 +31,32 @@ fn next_free(size: usize, c: usize) -> u16
     0
 }
 
-fn region_or_free(size: usize, end: usize, c: usize) -> u64
-    requires { ⌜ (size ≤ 16384) × (c ≤ 16384) × (221 ≤ c) ⌝ }
+// Cell c before any word, of `size` cells of which the reserved ones end at `end`.
+fn fresh_cell(size: usize, end: usize, c: usize) -> u64
+    requires { ⌜ (size ≤ largestN) × (c ≤ largestN) ⌝ }
     ensures { λ r. ⌜ Packs r (freshCell size end c) ⌝ }
 {
+    if c == 0 {
+        return cells::of_fields(0, 0, 0, 0);
+    }
+    if c == H2 {
+        return cells::of_fields(0, 4, 0, next_free(size, end));
+    }
+    if c < J0 {
+        return cells::EMPTY;
+    }
+    if c < FIRST_DECK {
+        return cells::of_process();
+    }
     if c < end {
         return cells::EMPTY;
     }
     cells::of_free(next_free(size, c + 1))
 }
 
-// Cell c before any word, of `size` cells of which the reserved ones end at `end`.
-fn fresh_cell(size: usize, end: usize, c: usize) -> u64
-    requires { ⌜ (size ≤ 16384) × (c ≤ 16384) ⌝ }
-    ensures { λ r. ⌜ Packs r (freshCell size end c) ⌝ }
-{
-    match c {
-        0 => cells::of_fields(0, 0, 0, 0),
-        3 => cells::of_fields(0, 4, 0, next_free(size, end)),
-        0..=20 => cells::EMPTY,
-        21..=220 => cells::of_process(),
-        _ => region_or_free(size, end, c),
-    }
-}
-
 // "The free list starts ascending", "Undefined regional cells are empty words", "H0, W and the rest of H are empty".
 fn lay(cells: &mut [u64], end: usize)
-    requires { ⌜ length (now cells) ≤ 16384 ⌝ }
+    requires { ⌜ length (now cells) ≤ largestN ⌝ }
     ensures { λ _. ⌜ (unpacked (now (cells .exit)) ≡ cellsFrom (freshCell (length (now (cells .entry))) end) (length (now (cells .entry))) 0)
         × AllFormed (now (cells .exit)) ⌝ }
 {

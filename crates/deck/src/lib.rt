@@ -2,11 +2,11 @@
 ghost use mathlib.Core.Path.{_≡_};
 ghost use mathlib.Core.Bool.{true};
 ghost use lib.ListN.{length};
-ghost use Rattle.paper.specs.Sound.{isLetter};
+ghost use Rattle.paper.specs.Region.{isLetter};
 ghost use Rattle.paper.specs.Record.{byteAt};
 ghost use Rattle.paper.specs.Deck.{loadWord, loadInteger, loadRegion, loadStart, loadOne};
 ghost use Rattle.cells.specs.Layout.{valueOf};
-ghost use Rattle.records.specs.Symbols.{recordOf, parsedOf, symbolsAt, Written};
+ghost use Rattle.records.specs.Symbols.{nameOf, recordOf, parsedOf, symbolsAt, Written};
 ghost use Rattle.book.specs.declared.Judged.{Judged};
 ghost use Rattle.book.specs.Kept.{Laid};
 ghost use Rattle.book.specs.Did.{OnTable};
@@ -22,10 +22,20 @@ use fresh::zero;
 use paper::Fault;
 use paper::Field;
 use paper::LoadAnswer;
+use paper::limits;
+use records::Name;
 use records::Parsed;
 use records::Read;
 use records::Record;
 use sound::Regions;
+
+// A word as its record writes it.
+struct Entry {
+    p: u8,
+    q: u8,
+    symb: Field,
+    link: Field,
+}
 
 // What a record comes to: was it the start?
 struct Turn {
@@ -53,22 +63,19 @@ fn load_word(
     names: &mut [bool],
     regions: Regions,
     notes: Notes,
-    name: Field,
-    p: u8,
-    q: u8,
-    symb: Field,
-    link: Field,
+    name: Name,
+    w: Entry,
 ) -> Turn
     requires { ⌜ Made regions ⌝ }
-    ensures { λ r. ⌜ Turned (ordinary (loadWord name p q symb link)) regions notes
+    ensures { λ r. ⌜ Turned (ordinary (loadWord (nameOf name) (w .p) (w .q) (w .symb) (w .link))) regions notes
         (now (cells .entry)) (now (names .entry)) (now (cells .exit)) (now (names .exit)) r ⌝ }
 {
+    let symb = w.symb;
+    let link = w.link;
     let a = book::name_fits(names, regions, notes, Judged::Fine, true, name);
     let b = book::known(regions, a, symb);
-    let d = book::has_structure(notes, b, name, symb);
-    let e = book::known(regions, d, link);
-    let f = book::has_structure(notes, e, name, link);
-    let n = book::cell_for(cells, names, regions, notes, f, name);
+    let d = book::known(regions, b, link);
+    let n = book::cell_for(cells, names, regions, notes, d, name);
     let named = n.go;
     let k = n.notes;
     let s = book::cell_named(cells, regions, k, named, symb);
@@ -77,7 +84,7 @@ fn load_word(
     let l = book::cell_named(cells, regions, j, told, link);
     let go = l.go;
     let i = l.notes;
-    let x = cells::of_fields(p, q, s.c, l.c);
+    let x = cells::of_fields(w.p, w.q, s.c, l.c);
     Turn {
         go: go,
         last: false,
@@ -92,11 +99,11 @@ fn load_integer(
     names: &mut [bool],
     regions: Regions,
     notes: Notes,
-    name: Field,
+    name: Name,
     v: u32,
 ) -> Turn
     requires { ⌜ Made regions ⌝ }
-    ensures { λ r. ⌜ Turned (ordinary (loadInteger name (valueOf v))) regions notes
+    ensures { λ r. ⌜ Turned (ordinary (loadInteger (nameOf name) (valueOf v))) regions notes
         (now (cells .entry)) (now (names .entry)) (now (cells .exit)) (now (names .exit)) r ⌝ }
 {
     let a = book::name_fits(names, regions, notes, Judged::Fine, false, name);
@@ -106,7 +113,7 @@ fn load_integer(
     Turn {
         go: go,
         last: false,
-        notes: book::fill(cells, k, n.c, cells::of_integer(v), false),
+        notes: book::fill(cells, k, n.c, cells::of_term(v), false),
         regions: regions,
     }
 }
@@ -120,8 +127,8 @@ fn load_start(cells: &mut [u64], regions: Regions, notes: Notes, b: u8, n: u16) 
     let d = book::known(regions, a, Field::Regional(b, n));
     let go = book::closes(notes, d);
     let c = book::cell_of(regions, b, n);
-    book::put(cells, 6, cells::of_fields(0, 0, 25, 0));
-    book::put(cells, 2, cells::of_fields(0, 0, c, 0));
+    book::put(cells, limits::H5, cells::of_fields(0, 0, limits::J4, 0));
+    book::put(cells, limits::H1, cells::of_fields(0, 0, c, 0));
     go
 }
 
@@ -177,11 +184,22 @@ fn load_record(
     match x {
         Record::Region(b, n) => load_region(cells, names, regions, notes, b, n),
         Record::Routine(name, p, q, symb, link) => {
-            load_word(cells, names, regions, notes, name, p, q, symb, link)
+            let w = Entry {
+                p: p,
+                q: q,
+                symb: symb,
+                link: link,
+            };
+            load_word(cells, names, regions, notes, name, w)
         }
         Record::Datum(name, symb, link) => {
-            let q = book::data_tag(symb);
-            load_word(cells, names, regions, notes, name, 0, q, symb, link)
+            let w = Entry {
+                p: 0,
+                q: book::data_tag(symb),
+                symb: symb,
+                link: link,
+            };
+            load_word(cells, names, regions, notes, name, w)
         }
         Record::Number(name, v) => load_integer(cells, names, regions, notes, name, v),
         Record::Start(b, n) => Turn {
@@ -321,7 +339,7 @@ pub fn load(deck: &[u8], cells: &mut [u64]) -> Loaded
             regions: Regions::none(),
         };
     }
-    let mut names = [false; 16384];
+    let mut names = [false; limits::LARGEST_N];
     let r = load_records(deck, cells, &mut names[..n]);
     let go = r.go;
     match go {

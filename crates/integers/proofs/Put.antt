@@ -5,9 +5,9 @@ use mathlib.Core.Path.{_≡_, refl, _∙_, subst}
 use mathlib.Core.List.{List}
 use borrow.Author.Tests.{eqb-true, not-false}
 use Rattle.paper.specs.declared.Refusal.{Refusal}
-use Rattle.paper.specs.Cell.{Cell, integer, fits32}
+use Rattle.paper.specs.Cell.{Cell, term, integer, termFits}
 use Rattle.paper.specs.Act.{Act, _>>_, refuseIf, put}
-use Rattle.cells.specs.Layout.{unpackOf, valueOf}
+use Rattle.cells.specs.Layout.{unpackOf, termOf}
 use Rattle.cells.specs.Pack.{Packs}
 use Rattle.cells.specs.Bridge.{Rest}
 use Rattle.undo.specs.declared.Acted.{Acted}
@@ -30,5 +30,5 @@ unfolding refuseIf _>>_
 puts-if false e c p j d = test j (puts c (p refl) d)
 puts-if true e c p j d = alike-here (λ e h. refl) (test j d)
 
-pub fitting : (x : ℕ) {y : ℕ} → Packs y (integer (valueOf (x % 2 ^ 32))) → not (fits32 (wideOf x)) ≡ false → Packs y (integer (wideOf x))
-fitting x {y} p t = subst (λ z. Packs y (integer z)) (value-low x (eqb-true _ _ (fits x ∙ not-false _ t))) p
+pub fitting : (x : ℕ) {y : ℕ} → Packs y (term (termOf (x % 2 ^ 32))) → not (termFits (integer (wideOf x))) ≡ false → Packs y (term (integer (wideOf x)))
+fitting x {y} p t = subst (λ z. Packs y (term (integer z))) (value-low x (eqb-true _ _ (fits x ∙ not-false _ t))) p

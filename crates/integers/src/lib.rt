@@ -1,16 +1,16 @@
 // The processes on integers, line by line the blocks of paper/specs/Process, each family as one function. An integer is its value
 // + 2^31. What an operation gives may not fit 32 bits: it stands 2^32 higher (`wideOf`), so that it is never below 0.
 ghost use mathlib.Core.Path.{_≡_};
-ghost use Rattle.paper.specs.Process.{putInteger, combines, compares, compares0, J120, copyName, changes};
+ghost use Rattle.paper.specs.Cell.{integer};
+ghost use Rattle.paper.specs.Process.{putTerm, combines, compares, compares0, J120, copyName, changes};
 ghost use Rattle.cells.specs.Layout.{wordOf, valueOf};
 ghost use Rattle.undo.specs.Log.{Room};
 ghost use Rattle.undo.specs.Did.{Always, Top, Did};
 ghost use Rattle.integers.specs.Family.{operationOf, changeOf, relationOf, wideOf};
 use paper::Refusal;
 use paper::Symbol;
+use paper::limits;
 use undo::Acted;
-
-const H0: u16 = 1;
 
 // How (0) is to stand to (1), or to zero.
 pub enum Relation {
@@ -64,10 +64,10 @@ pub fn copy_name(w: u64, n: u16) -> Symbol
 // An integer that an operation gives: it fits where it is 2^32 and an integer's number.
 pub fn put_integer(cells: &mut [u64], log: &mut [u64], a: Acted, c: u16, x: u64) -> Acted
     requires { ⌜ Room (now log) 1 ⌝ }
-    ensures { λ r. ⌜ Did Always 1 (putInteger c (wideOf x)) (now (cells .entry)) (now (log .entry)) a (now (cells .exit)) (now (log .exit)) r tt ⌝ }
+    ensures { λ r. ⌜ Did Always 1 (putTerm c (integer (wideOf x))) (now (cells .entry)) (now (log .entry)) a (now (cells .exit)) (now (log .exit)) r tt ⌝ }
 {
     let go = undo::refuse_if(a, x / 4294967296 != 1, Refusal::OutOfRange(c));
-    let y = cells::of_integer((x % 4294967296) as u32);
+    let y = cells::of_term((x % 4294967296) as u32);
     undo::put(cells, log, go, c, y);
     go
 }
@@ -77,16 +77,16 @@ pub fn combines(cells: &mut [u64], log: &mut [u64], a: Acted, top: u16, minus: b
     requires { ⌜ Room (now log) 13 ⌝ }
     ensures { λ r. ⌜ Did (Top top) 13 (combines (operationOf minus)) (now (cells .entry)) (now (log .entry)) a (now (cells .exit)) (now (log .exit)) r tt ⌝ }
 {
-    let w0 = acts::own(cells, H0);
-    let g1 = acts::below(cells, a, w0);
+    let w0 = acts::own(cells, limits::H0);
+    let g1 = acts::below(cells, a, limits::H0, w0);
     let w1 = g1.x;
     let b = g1.go;
-    let g2 = acts::below(cells, b, w1);
+    let g2 = acts::below(cells, b, (w0 % 65536) as u16, w1);
     let w2 = g2.x;
     let d = g2.go;
     let c0 = (w0 / cells::SYMB % 65536) as u16;
-    let i0 = acts::integer_at(cells, d, c0);
-    let e = i0.go;
+    let t0 = acts::term_to(cells, d, c0);
+    let e = t0.go;
     let c1 = (w1 / cells::SYMB % 65536) as u16;
     let i1 = acts::integer_at(cells, e, c1);
     let f = i1.go;
@@ -101,8 +101,8 @@ pub fn compares(cells: &mut [u64], log: &mut [u64], a: Acted, top: u16, k: Relat
     requires { ⌜ Room (now log) 7 ⌝ }
     ensures { λ r. ⌜ Did (Top top) 7 (compares (relationOf k)) (now (cells .entry)) (now (log .entry)) a (now (cells .exit)) (now (log .exit)) r tt ⌝ }
 {
-    let w0 = acts::own(cells, H0);
-    let g = acts::below(cells, a, w0);
+    let w0 = acts::own(cells, limits::H0);
+    let g = acts::below(cells, a, limits::H0, w0);
     let w1 = g.x;
     let b = g.go;
     let i0 = acts::integer_at(cells, b, (w0 / cells::SYMB % 65536) as u16);
@@ -117,7 +117,7 @@ pub fn compares0(cells: &mut [u64], log: &mut [u64], a: Acted, top: u16, k: Rela
     requires { ⌜ Room (now log) 4 ⌝ }
     ensures { λ r. ⌜ Did (Top top) 4 (compares0 (relationOf k)) (now (cells .entry)) (now (log .entry)) a (now (cells .exit)) (now (log .exit)) r tt ⌝ }
 {
-    let w0 = acts::own(cells, H0);
+    let w0 = acts::own(cells, limits::H0);
     let i = acts::integer_at(cells, a, (w0 / cells::SYMB % 65536) as u16);
     let go = i.go;
     processes::tests1(cells, log, go, top, holds(k, i.v, cells::ZERO))
@@ -128,13 +128,13 @@ pub fn j120(cells: &mut [u64], log: &mut [u64], a: Acted, top: u16) -> Acted
     requires { ⌜ Room (now log) 8 ⌝ }
     ensures { λ r. ⌜ Did (Top top) 8 J120 (now (cells .entry)) (now (log .entry)) a (now (cells .exit)) (now (log .exit)) r tt ⌝ }
 {
-    let w0 = acts::own(cells, H0);
-    let i = acts::integer_at(cells, a, (w0 / cells::SYMB % 65536) as u16);
-    let b = i.go;
-    let y = cells::of_integer(i.v);
-    let t = acts::take_as(cells, log, b, y);
-    let d = t.go;
-    acts::gives1(cells, log, d, top, copy_name(w0, t.c))
+    let w0 = acts::own(cells, limits::H0);
+    let t = acts::term_at(cells, a, (w0 / cells::SYMB % 65536) as u16);
+    let b = t.go;
+    let y = cells::of_term(t.v);
+    let n = acts::take_as(cells, log, b, y);
+    let d = n.go;
+    acts::gives1(cells, log, d, top, copy_name(w0, n.c))
 }
 
 // J125, and J123 where `negate` holds.
@@ -142,10 +142,10 @@ pub fn changes(cells: &mut [u64], log: &mut [u64], a: Acted, top: u16, negate: b
     requires { ⌜ Room (now log) 7 ⌝ }
     ensures { λ r. ⌜ Did (Top top) 7 (changes (changeOf negate)) (now (cells .entry)) (now (log .entry)) a (now (cells .exit)) (now (log .exit)) r tt ⌝ }
 {
-    let w0 = acts::own(cells, H0);
+    let w0 = acts::own(cells, limits::H0);
     let c = (w0 / cells::SYMB % 65536) as u16;
-    let i = acts::integer_at(cells, a, c);
-    let b = i.go;
-    let d = put_integer(cells, log, b, c, changed(negate, i.v));
+    let t = acts::term_to(cells, a, c);
+    let b = t.go;
+    let d = put_integer(cells, log, b, c, changed(negate, t.v));
     acts::gives1(cells, log, d, top, cells::symbol(w0))
 }

@@ -8,6 +8,7 @@ use borrow.Author.Tests.{ltb-false}
 use lib.Dec.{ltb}
 use lib.ListN.{length, take, length-append}
 use lib.Seq.{length-take-le}
+use Rattle.paper.specs.Limits.{longestLine}
 use Rattle.paper.specs.declared.Refusal.{Refusal}
 use Rattle.paper.specs.declared.Refusal.the-variants.{NoRoom}
 use Rattle.paper.specs.declared.Symbol.{Symbol}
@@ -20,7 +21,7 @@ use Rattle.undo.specs.declared.Acted.the-variants.{Done, Refused}
 use Rattle.undo.specs.Did.{left, To, Top, Judged, Sees, Reads, Did}
 use Rattle.undo.proofs.Join.{to-bind, to-then, to-sees}
 use Rattle.undo.proofs.Readings.{when}
-use Rattle.lines.specs.Ran.{lined, Ran, Known, Kept, RanLine, symbolBy, printPop, Writes}
+use Rattle.lines.specs.Ran.{lined, Ran, Known, Kept, RanLine, printPop, Writes}
 
 -- where nothing is printed
 no-bytes : (e : Rest) → lined [] e ≡ e
@@ -169,7 +170,7 @@ passed true e d p =
     absurd (omega arith)
 
 -- the text that ends at `at` of a line is printed, and H0 popped
-module _ {s l s′ l′ : List ℕ} {a b r : Acted} {line line′ : List ℕ} {at len top : ℕ} (room : ℕ) (sized : length line ≡ 32) (ends : at < 32) where
+module _ {s l s′ l′ : List ℕ} {a b r : Acted} {line line′ : List ℕ} {at len top : ℕ} (room : ℕ) (sized : length line ≡ longestLine) (ends : at < longestLine) where
   pub prints-pops : Writes line at (10 ∷ []) line′ len → Judged (refuseIf (ltb room len) NoRoom) a b → Did (Top top) 3 pop s l b s′ l′ r tt
       → (rs : List Region) → RanLine (Known rs room top) 3 (printPop (take at line)) s l a s′ l′ line′ (record { go = r; len = len })
   prints-pops w d f rs =
@@ -187,7 +188,7 @@ module _ {s l s′ l′ : List ℕ} {a b r : Acted} {line line′ : List ℕ} {a
       }
 
 -- no line; a line, and then what does not print
-pub kept-none : {K : Rest → Type 0} {line : List ℕ} {r : Acted} → length line ≡ 32 → Kept K line 0 r
+pub kept-none : {K : Rest → Type 0} {line : List ℕ} {r : Acted} → length line ≡ longestLine → Kept K line 0 r
 kept-none h = record { sized = h; within = omega arith; fits = λ e k p. omega arith }
 
 pub kept-then : {A : Type 0} {K J : Rest → Type 0} {j : ℕ} {M : Act A} {s l s′ l′ : List ℕ} {a r : Acted} {v : A} {line : List ℕ} {len : ℕ}
@@ -195,11 +196,7 @@ pub kept-then : {A : Type 0} {K J : Rest → Type 0} {j : ℕ} {M : Act A} {s l 
 kept-then t w d h = record { sized = h .sized; within = h .within; fits = λ e k p. h .fits e k (was-done (d .is (lined t e) (w e k)) p) }
 
 -- the text of a symbol, where the regions are known
-symbol-by : {rs : List Region} {room top : ℕ} {e : Rest} (x : Symbol) → Known rs room top e → symbolText (e .regions) x ≡ symbolBy rs top x
-unfolding symbolText reservedIn
-symbol-by x k = rw (k .regions, k .ends)
-
 pub text-seen : {rs : List Region} {room top : ℕ} (s : List ℕ) (x : Symbol)
-    → Sees (Known rs room top) (asks (λ s. symbolText (s .regions) x)) s (symbolBy rs top x)
+    → Sees (Known rs room top) (asks (λ s. symbolText (s .regions) x)) s (symbolText rs x)
 unfolding asks
-text-seen s x = record { is = λ e k. ap (λ (t : List ℕ). done t (stateOf e s)) (symbol-by x k) }
+text-seen s x = record { is = λ e k. ap (λ (rs : List Region). done (symbolText rs x) (stateOf e s)) (k .regions) }

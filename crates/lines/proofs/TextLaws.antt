@@ -2,26 +2,26 @@
 use Prim.Native.Nat.{ℕ, zero, suc, _+_, _-_, _/_, _%_, _^_, _<_, _≤_, min}
 use mathlib.Core.Path.{_≡_, refl, ap, _∙_, sym, subst}
 use mathlib.Core.Logic.{_≢_}
-use mathlib.Core.Bool.{Bool, true, false, _&&_, and-false, true≢false}
+use mathlib.Core.Bool.{Bool, true, false, _&&_, not, and-false, true≢false}
+use mathlib.Core.Option.{Option, none}
 use mathlib.Core.List.{List, [], _∷_, _++_, append-assoc, append-nil}
 use native.Mathlib.Nat.{min-eq-left, min-eq-right}
 use native.Mathlib.Omega.{arith}
 use native.Mathlib.Numerals.{add-one}
-use borrow.Author.Tests.{lt-ltb, le-ltb, ltb-true, ltb-false}
+use borrow.Author.Tests.{lt-ltb, le-ltb, ltb-true, ltb-false, eqb-false}
 use lib.Dec.{ltb, eqb}
 use lib.ListN.{length, getD, take, drop, set, length-append, length-set}
 use lib.Seq.{take-suc-set, length-take-le, paste, paste-suc, length-paste, take-paste, drop-paste}
 use Rattle.paper.specs.declared.Symbol.{Symbol}
-use Rattle.paper.specs.Cell.{Region}
-use Rattle.paper.specs.Act.{choose}
-use Rattle.paper.specs.Print.{digitsBy, digits, integerText, deckName, regionalName}
+use Rattle.paper.specs.Limits.{firstDeck}
+use Rattle.paper.specs.Region.{Region, H, W, J, layout, lettersFrom, lettersOf}
+use Rattle.paper.specs.Print.{digitsBy, digits, integerText, cellText, symbolText}
 use Rattle.cells.specs.Layout.{valueOf}
 use Rattle.cells.proofs.Laws.{value-low, value-high}
 use Rattle.sound.specs.declared.Regions.{Regions}
 use Rattle.sound.specs.Table.{regionsOf}
 use Rattle.sound.proofs.TableLaws.{few, full, rest-more, rest-none}
-use Rattle.undo.specs.Did.{reservedBy}
-use Rattle.lines.specs.Ran.{symbolBy, Writes, Text, Copies}
+use Rattle.lines.specs.Ran.{Writes, Text, Copies}
 
 pub writes-none : (l : List ℕ) (at : ℕ) → Writes l at [] l at
 writes-none l at = record { text = sym (append-nil (take at l)); end = omega arith; sized = refl }
@@ -66,15 +66,12 @@ digits-length (suc k) n = go (ltb n 10) (digits-length k (n / 10))
     go true h = omega arith
     go false h = rw length-append (omega arith)
 
--- a text: another that is the same, or from the same line; none; the digits of a number, alone or after a byte
+-- a text: another that is the same, or from the same line; the digits of a number, alone or after a byte
 pub text-as : {l l′ : List ℕ} {r : ℕ} {t u : List ℕ} → t ≡ u → Text l t l′ r → Text l u l′ r
 text-as {l} {l′} {r} p w = subst (λ t. Text l t l′ r) p w
 
 pub text-from : {k l l′ : List ℕ} {r : ℕ} {t : List ℕ} → l ≡ k → Text l t l′ r → Text k t l′ r
 text-from {l′ = l′} {r = r} {t = t} p w = subst (λ l. Text l t l′ r) p w
-
-pub text-none : (l : List ℕ) → Text l [] l 0
-text-none l = record { writes = writes-none l 0; short = omega arith }
 
 pub text-number : {l l′ : List ℕ} {r : ℕ} (n : ℕ) → Writes l 0 (digits n) l′ r → Text l (digits n) l′ r
 text-number n w = record { writes = w; short = omega (arith, w .end, digits-length 10 n) }
@@ -101,56 +98,75 @@ rows-held r {m} e = go (ltb (r .n) 23) refl
 
 module _ (r : Regions) {m : ℕ} (held : m ≡ min (r .n) 23) (i : ℕ) where
   pub deck-here : (at k c : ℕ) → i < m → k ≡ getD (r .counts) i 0 → c < at + k
-      → getD (r .letters) i 0 ∷ digits (c - at) ≡ deckName (drop i (regionsOf r)) at c
-  unfolding deckName
+      → getD (r .letters) i 0 ∷ digits (c - at) ≡ cellText c (lettersFrom (drop i (regionsOf r)) at c)
+  unfolding cellText lettersFrom
   deck-here at k c h e p =
       let q : c < at + getD (r .counts) i 0 = rw e at p in
-      rw (rest-more r i (omega (arith, rows-held r held)), lt-ltb c (at + getD (r .counts) i 0) q, deckName)
+      rw (rest-more r i (omega (arith, rows-held r held)), lt-ltb c (at + getD (r .counts) i 0) q, lettersFrom)
 
   pub deck-more : (at k c : ℕ) → i < m → k ≡ getD (r .counts) i 0 → at + k ≤ c
-      → deckName (drop (i + 1) (regionsOf r)) (at + k) c ≡ deckName (drop i (regionsOf r)) at c
-  unfolding deckName
+      → lettersFrom (drop (i + 1) (regionsOf r)) (at + k) c ≡ lettersFrom (drop i (regionsOf r)) at c
+  unfolding lettersFrom
   deck-more at k c h e p =
       let q : at + getD (r .counts) i 0 ≤ c = rw e at p in
-      rw (rest-more r i (omega (arith, rows-held r held)), e, le-ltb c (at + getD (r .counts) i 0) q, deckName)
+      rw (rest-more r i (omega (arith, rows-held r held)), e, le-ltb c (at + getD (r .counts) i 0) q, lettersFrom)
 
-  pub deck-none : (at c : ℕ) → m ≤ i → [] ≡ deckName (drop i (regionsOf r)) at c
-  unfolding deckName
+  pub deck-none : (at c : ℕ) → m ≤ i → digits c ≡ cellText c (lettersFrom (drop i (regionsOf r)) at c)
+  unfolding cellText lettersFrom
   deck-none at c h = rw (rest-none r i (omega (arith, rows-held r held)))
 
--- the name of a cell by its range
+-- the name of a cell by its range: H, W and J are the first regions of the layout
 module _ (rs : List Region) (c : ℕ) where
-  pub name-H : c < 11 → 72 ∷ digits (c - 1) ≡ regionalName rs c
-  unfolding regionalName choose
-  name-H h = rw (lt-ltb c 11 h)
+  pub name-H : c < W 0 → 0x48 ∷ digits (c - H 0) ≡ cellText c (lettersFrom (layout rs) 1 c)
+  unfolding cellText lettersFrom
+  name-H h = rw (lettersFrom, lt-ltb c (W 0) h)
 
-  pub name-W : 11 ≤ c → c < 21 → 87 ∷ digits (c - 11) ≡ regionalName rs c
-  unfolding regionalName choose
-  name-W g h = rw (le-ltb c 11 g, lt-ltb c 21 h)
+  pub name-W : W 0 ≤ c → c < J 0 → 0x57 ∷ digits (c - W 0) ≡ cellText c (lettersFrom (layout rs) 1 c)
+  unfolding cellText lettersFrom
+  name-W g h = rw (lettersFrom, le-ltb c (W 0) g, lettersFrom, lt-ltb c (J 0) h)
 
-  pub name-J : 21 ≤ c → c < 221 → 74 ∷ digits (c - 21) ≡ regionalName rs c
-  unfolding regionalName choose
-  name-J g h = rw (le-ltb c 11 (omega arith), le-ltb c 21 g, lt-ltb c 221 h)
+  pub name-J : J 0 ≤ c → c < firstDeck → 0x4A ∷ digits (c - J 0) ≡ cellText c (lettersFrom (layout rs) 1 c)
+  unfolding cellText lettersFrom
+  name-J g h = rw (lettersFrom, le-ltb c (W 0) (omega arith), lettersFrom, le-ltb c (J 0) g, lettersFrom, lt-ltb c firstDeck h)
 
-  pub name-deck : 221 ≤ c → deckName rs 221 c ≡ regionalName rs c
-  unfolding regionalName choose
-  name-deck g = rw (le-ltb c 11 (omega arith), le-ltb c 21 (omega arith), le-ltb c 221 g)
+  pub name-deck : firstDeck ≤ c → cellText c (lettersFrom rs firstDeck c) ≡ cellText c (lettersFrom (layout rs) 1 c)
+  unfolding lettersFrom
+  name-deck g = rw (lettersFrom, le-ltb c (W 0) (omega arith), lettersFrom, le-ltb c (J 0) (omega arith), lettersFrom, le-ltb c firstDeck g)
 
--- the text of a symbol, by the test whether it is named by its region
-module _ (x : Symbol) (top : ℕ) {b : Bool} (e : b ≡ reservedBy top (x .num)) where
-  pub symbol-named : (rs : List Region) → (eqb (x .tag) 0 && b) ≡ true → regionalName rs (x .num) ≡ symbolBy rs top x
-  symbol-named rs p = let q : (eqb (x .tag) 0 && reservedBy top (x .num)) ≡ true = rw e at p in rw q
+-- the text of a symbol, by the test whether it may have a name: a regional one of a cell that is not 0
+module _ (rs : List Region) (x : Symbol) where
+  abbrev may : Bool → Bool → Bool
+  may t z = t && not z
 
-  pub symbol-number : (rs : List Region) → (eqb (x .tag) 0 && b) ≡ false → digits (x .num) ≡ symbolBy rs top x
-  symbol-number rs p = let q : (eqb (x .tag) 0 && reservedBy top (x .num)) ≡ false = rw e at p in rw q
+  abbrev text : Bool → Bool → List ℕ
+  text t z = elim t [ true ↦ cellText (x .num) (elim z [ true ↦ none | false ↦ lettersFrom (layout rs) 1 (x .num) ]) | false ↦ digits (x .num) ]
 
-  -- a reserved cell is not 0
-  pub symbol-some : (eqb (x .tag) 0 && b) ≡ true → 0 < x .num
-  symbol-some p = go (ltb 0 (x .num)) refl (ap (λ (d : Bool). eqb (x .tag) 0 && d) (sym e) ∙ p)
+  as-named : (t z : Bool) → may t z ≡ true → cellText (x .num) (lettersFrom (layout rs) 1 (x .num)) ≡ text t z
+  as-named true true p = absurd (true≢false (sym p))
+  as-named true false p = refl
+  as-named false z p = absurd (true≢false (sym p))
+
+  as-number : (t z : Bool) → may t z ≡ false → digits (x .num) ≡ text t z
+  unfolding cellText
+  as-number true true p = refl
+  as-number true false p = absurd (true≢false p)
+  as-number false z p = refl
+
+  pub symbol-named : (n : ℕ) → n ≡ x .num → may (eqb (x .tag) 0) (eqb (x .num) 0) ≡ true
+      → cellText n (lettersFrom (layout rs) 1 n) ≡ symbolText rs x
+  unfolding symbolText lettersOf
+  symbol-named n e p = rw e (as-named (eqb (x .tag) 0) (eqb (x .num) 0) p)
+
+  pub symbol-number : (n : ℕ) → n ≡ x .num → may (eqb (x .tag) 0) (eqb (x .num) 0) ≡ false → digits n ≡ symbolText rs x
+  unfolding symbolText lettersOf
+  symbol-number n e p = rw e (as-number (eqb (x .tag) 0) (eqb (x .num) 0) p)
+
+  pub symbol-some : may (eqb (x .tag) 0) (eqb (x .num) 0) ≡ true → 0 < x .num
+  symbol-some p = go (eqb (x .num) 0) refl p
     where
-      go : (d : Bool) → ltb 0 (x .num) ≡ d → (eqb (x .tag) 0 && (d && ltb (x .num) top)) ≡ true → 0 < x .num
-      go true h p = ltb-true 0 (x .num) h
-      go false h p = absurd (true≢false (sym p ∙ and-false (eqb (x .tag) 0)))
+      go : (z : Bool) → eqb (x .num) 0 ≡ z → may (eqb (x .tag) 0) z ≡ true → 0 < x .num
+      go true h q = absurd (true≢false (sym q ∙ and-false (eqb (x .tag) 0)))
+      go false h q = let n = eqb-false (x .num) 0 h in omega (arith, n)
 
 -- a line copied out, byte by byte
 pub paste-more : (d : List ℕ) (at : ℕ) (s : List ℕ) (j : ℕ) {l : List ℕ} → at + j < length d → j < length s → l ≡ paste d at s j

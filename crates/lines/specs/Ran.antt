@@ -2,21 +2,19 @@
 -- accepted; so that bytes past the lines keep what they held.
 use Prim.Native.Nat.{ℕ, _+_, _-_, _≤_}
 use mathlib.Core.Path.{_≡_}
-use mathlib.Core.Bool.{cond, _&&_}
 use mathlib.Core.List.{List, _++_}
-use lib.Dec.{eqb}
 use lib.ListN.{length, take, drop}
-use Rattle.paper.specs.declared.Symbol.{Symbol}
+use Rattle.paper.specs.Limits.{longestLine, firstDeck}
 use Rattle.paper.specs.Cell.{Region, endOfRegions}
 use Rattle.paper.specs.Act.{Act, _>>_, pop}
-use Rattle.paper.specs.Print.{digits, regionalName, printLine}
+use Rattle.paper.specs.Print.{printLine}
 use Rattle.cells.specs.Pack.{AllFormed}
 use Rattle.cells.specs.Bridge.{Rest, stateOf}
 use Rattle.sound.specs.Table.{regionsOf}
 use Rattle.undo.specs.Log.{used, rewindOf}
 use Rattle.undo.specs.declared.Acted.{Acted}
 use Rattle.undo.specs.declared.Acted.the-variants.{Done}
-use Rattle.undo.specs.Did.{To, reservedBy}
+use Rattle.undo.specs.Did.{To}
 use Rattle.lines.specs.declared.Printed.{Printed}
 
 -- what of a state is not in the cells, after the bytes t were printed
@@ -35,12 +33,12 @@ pub record Ran {A : Type 0} (K : Rest → Type 0) (k : ℕ) (M : Act A) (s l : L
 pub record Known (rs : List Region) (n top : ℕ) (e : Rest) : Type 0 where
   pub regions : e .regions ≡ rs
   pub room : e .room ≡ n
-  pub ends : endOfRegions rs 221 ≡ top
+  pub ends : endOfRegions rs firstDeck ≡ top
 
 -- the line that is kept aside, of `len` bytes, where the answer is r: it fits if there was no refusal
 pub record Kept (K : Rest → Type 0) (line : List ℕ) (len : ℕ) (r : Acted) : Type 0 where
-  pub sized : length line ≡ 32
-  pub within : len ≤ 32
+  pub sized : length line ≡ longestLine
+  pub within : len ≤ longestLine
   pub fits : (e : Rest) → K e → r ≡ Done → len ≤ e .room
 
 -- what a process that may print has done, and its line
@@ -51,10 +49,6 @@ pub record RanLine (K : Rest → Type 0) (k : ℕ) (M : Act (Unit {0})) (s l : L
 -- the regions of a table that is lent in parts
 abbrev pub tableOf : List ℕ → List ℕ → ℕ → List Region
 tableOf ls cs n = regionsOf (record { letters = ls; counts = cs; n = n })
-
--- `symbolText` where the regions end at `top`
-abbrev pub symbolBy : List Region → ℕ → Symbol → List ℕ
-symbolBy rs top x = cond (eqb (x .tag) 0 && reservedBy top (x .num)) (regionalName rs (x .num)) (digits (x .num))
 
 -- how J152 and J153 end
 abbrev pub printPop : List ℕ → Act (Unit {0})

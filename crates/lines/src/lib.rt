@@ -1,17 +1,38 @@
-// Printing: the text of a line, J152 and J153. A line is kept in a scratch of 32 bytes, line feed included, until its cycle has been accepted.
+// Printing: the text of a line, J152 and J153. A line is kept aside, line feed included, until its cycle has been accepted.
 ghost use mathlib.Core.Path.{_≡_};
 ghost use mathlib.Core.List.{List, [], _∷_};
 ghost use Prim.Native.Nat.{_+_, _<_, _≤_, min};
 ghost use lib.ListN.{length, take};
-ghost use Rattle.paper.specs.Cell.{Region};
-ghost use Rattle.paper.specs.Print.{digits, digitsBy, integerText, deckName, regionalName};
+ghost use Rattle.paper.specs.Limits.{longestLine, firstDeck};
+ghost use Rattle.paper.specs.Region.{Region, layout, lettersFrom};
+ghost use Rattle.paper.specs.Print.{digits, digitsBy, integerText, cellText, symbolText};
 ghost use Rattle.paper.specs.Process.{J152, J153};
 ghost use Rattle.cells.specs.Layout.{valueOf};
 ghost use Rattle.undo.specs.Log.{Room};
-ghost use Rattle.lines.specs.Ran.{tableOf, symbolBy, printPop, Known, RanLine, Writes, Text, Copies};
+ghost use Rattle.lines.specs.Ran.{tableOf, printPop, Known, RanLine, Writes, Text, Copies};
 use paper::Refusal;
 use paper::Symbol;
+use paper::limits;
 use undo::Acted;
+
+// The scratch for a line, and the two columns of a region table.
+pub type Line = [u8; limits::LONGEST_LINE];
+
+pub type Letters = [u8; limits::MANY_REGIONS];
+
+pub type Counts = [u16; limits::MANY_REGIONS];
+
+// Ten digits are enough for any number of 32 bits.
+const MOST_DIGITS: usize = 10;
+
+// The first cells of H, W, J and the deck regions, in the width of a number to be printed.
+const H0: u32 = limits::H0 as u32;
+
+const W0: u32 = limits::W0 as u32;
+
+const J0: u32 = limits::J0 as u32;
+
+const FIRST_DECK: u32 = limits::FIRST_DECK as u32;
 
 // What a process that prints came to, and the length of its line.
 pub struct Printed {
@@ -26,8 +47,8 @@ fn wide(x: u16) -> u32
 }
 
 // The last k decimal digits of n, with no zeros before them.
-fn digits(line: &mut [u8; 32], at: usize, k: usize, n: u32) -> usize
-    requires { ⌜ (length (now line) ≡ 32) × (at + k ≤ 32) ⌝ }
+fn digits(line: &mut Line, at: usize, k: usize, n: u32) -> usize
+    requires { ⌜ (length (now line) ≡ longestLine) × (at + k ≤ longestLine) ⌝ }
     ensures { λ r. ⌜ Writes (now (line .entry)) at (digitsBy k n) (now (line .exit)) r ⌝ }
 {
     if k == 0 {
@@ -43,25 +64,25 @@ fn digits(line: &mut [u8; 32], at: usize, k: usize, n: u32) -> usize
 }
 
 // A number alone.
-fn number(line: &mut [u8; 32], n: u32) -> usize
-    requires { ⌜ length (now line) ≡ 32 ⌝ }
+fn number(line: &mut Line, n: u32) -> usize
+    requires { ⌜ length (now line) ≡ longestLine ⌝ }
     ensures { λ r. ⌜ Text (now (line .entry)) (digits n) (now (line .exit)) r ⌝ }
 {
-    digits(line, 0, 10, n)
+    digits(line, 0, MOST_DIGITS, n)
 }
 
 // A letter or a sign, then a number.
-fn lettered(line: &mut [u8; 32], letter: u8, n: u32) -> usize
-    requires { ⌜ length (now line) ≡ 32 ⌝ }
+fn lettered(line: &mut Line, letter: u8, n: u32) -> usize
+    requires { ⌜ length (now line) ≡ longestLine ⌝ }
     ensures { λ r. ⌜ Text (now (line .entry)) (letter ∷ digits n) (now (line .exit)) r ⌝ }
 {
     line[0] = letter;
-    digits(line, 1, 10, n)
+    digits(line, 1, MOST_DIGITS, n)
 }
 
 // The integer v - 2^31.
-fn integer_text(line: &mut [u8; 32], v: u32) -> usize
-    requires { ⌜ length (now line) ≡ 32 ⌝ }
+fn integer_text(line: &mut Line, v: u32) -> usize
+    requires { ⌜ length (now line) ≡ longestLine ⌝ }
     ensures { λ r. ⌜ Text (now (line .entry)) (integerText (valueOf v)) (now (line .exit)) r ⌝ }
 {
     if v < cells::ZERO {
@@ -74,16 +95,17 @@ fn integer_text(line: &mut [u8; 32], v: u32) -> usize
 fn rows(n: usize) -> usize
     ensures { λ r. ⌜ r ≡ min n 23 ⌝ }
 {
-    if n < 23 { n } else { 23 }
+    if n < limits::MANY_REGIONS { n } else { limits::MANY_REGIONS }
 }
 
-// Letter and number of a cell in the deck regions, which start at 221.
-fn deck_name(line: &mut [u8; 32], letters: &[u8; 23], counts: &[u16; 23], n: usize, c: u32) -> usize
-    requires { ⌜ (length (now line) ≡ 32) × (221 ≤ c) ⌝ }
-    ensures { λ r. ⌜ Text (now (line .entry)) (deckName (tableOf (now (letters .entry)) (now (counts .entry)) n) 221 c) (now (line .exit)) r ⌝ }
+// A cell by letter and number in the deck regions, or by its number past their end.
+fn deck_text(line: &mut Line, letters: &Letters, counts: &Counts, n: usize, c: u32) -> usize
+    requires { ⌜ (length (now line) ≡ longestLine) × (firstDeck ≤ c) ⌝ }
+    ensures { λ r. ⌜ Text (now (line .entry))
+        (cellText c (lettersFrom (tableOf (now (letters .entry)) (now (counts .entry)) n) firstDeck c)) (now (line .exit)) r ⌝ }
 {
     let m = rows(n);
-    let mut at = 221;
+    let mut at = FIRST_DECK;
     let mut i = 0;
     while i < m {
         let end = at + wide(counts[i]);
@@ -93,54 +115,48 @@ fn deck_name(line: &mut [u8; 32], letters: &[u8; 23], counts: &[u16; 23], n: usi
         at = end;
         i += 1;
     }
-    0
+    number(line, c)
 }
 
-// "H0..H9 are cells 1..10, W0..W9 are 11..20, J0..J199 are 21..220"
-fn regional_name(
-    line: &mut [u8; 32],
-    letters: &[u8; 23],
-    counts: &[u16; 23],
-    n: usize,
-    c: u32,
-) -> usize
-    requires { ⌜ (length (now line) ≡ 32) × (0 < c) ⌝ }
-    ensures { λ r. ⌜ Text (now (line .entry)) (regionalName (tableOf (now (letters .entry)) (now (counts .entry)) n) c) (now (line .exit)) r ⌝ }
+// "H0..H9 are cells 1..10, W0..W9 are 11..20, J0..J199 are 21..220", and then the deck's.
+fn cell_text(line: &mut Line, letters: &Letters, counts: &Counts, n: usize, c: u32) -> usize
+    requires { ⌜ (length (now line) ≡ longestLine) × (0 < c) ⌝ }
+    ensures { λ r. ⌜ Text (now (line .entry))
+        (cellText c (lettersFrom (layout (tableOf (now (letters .entry)) (now (counts .entry)) n)) 1 c)) (now (line .exit)) r ⌝ }
 {
-    if c < 11 {
-        return lettered(line, b'H', c - 1);
+    if c < W0 {
+        return lettered(line, b'H', c - H0);
     }
-    if c < 21 {
-        return lettered(line, b'W', c - 11);
+    if c < J0 {
+        return lettered(line, b'W', c - W0);
     }
-    if c < 221 {
-        return lettered(line, b'J', c - 21);
+    if c < FIRST_DECK {
+        return lettered(line, b'J', c - J0);
     }
-    deck_name(line, letters, counts, n, c)
+    deck_text(line, letters, counts, n, c)
 }
 
 // "region letter and number if the tag is 0 and the cell reserved, else decimal digits"
 fn symbol_text(
-    line: &mut [u8; 32],
-    letters: &[u8; 23],
-    counts: &[u16; 23],
+    line: &mut Line,
+    letters: &Letters,
+    counts: &Counts,
     n: usize,
-    top: u16,
     x: Symbol,
 ) -> usize
-    requires { ⌜ length (now line) ≡ 32 ⌝ }
-    ensures { λ r. ⌜ Text (now (line .entry)) (symbolBy (tableOf (now (letters .entry)) (now (counts .entry)) n) top x) (now (line .exit)) r ⌝ }
+    requires { ⌜ length (now line) ≡ longestLine ⌝ }
+    ensures { λ r. ⌜ Text (now (line .entry)) (symbolText (tableOf (now (letters .entry)) (now (counts .entry)) n) x) (now (line .exit)) r ⌝ }
 {
     let c = x.num;
-    if (x.tag == Symbol::REGIONAL) & acts::reserved(top, c) {
-        return regional_name(line, letters, counts, n, wide(c));
+    if (x.tag == Symbol::REGIONAL) & (c != 0) {
+        return cell_text(line, letters, counts, n, wide(c));
     }
     number(line, wide(c))
 }
 
 // "then one line feed"
-fn end_line(line: &mut [u8; 32], at: usize) -> usize
-    requires { ⌜ (length (now line) ≡ 32) × (at < 32) ⌝ }
+fn end_line(line: &mut Line, at: usize) -> usize
+    requires { ⌜ (length (now line) ≡ longestLine) × (at < longestLine) ⌝ }
     ensures { λ r. ⌜ Writes (now (line .entry)) at (10 ∷ []) (now (line .exit)) r ⌝ }
 {
     line[at] = 10;
@@ -151,13 +167,13 @@ fn end_line(line: &mut [u8; 32], at: usize) -> usize
 fn print(
     cells: &mut [u64],
     log: &mut [u64],
-    line: &mut [u8; 32],
+    line: &mut Line,
     a: Acted,
     top: u16,
     room: usize,
     at: usize,
 ) -> Printed
-    requires { ⌜ Room (now log) 3 × (length (now line) ≡ 32) × (at < 32) ⌝ }
+    requires { ⌜ Room (now log) 3 × (length (now line) ≡ longestLine) × (at < longestLine) ⌝ }
     ensures { λ r. ⌜ ((rs : List Region) → RanLine (Known rs room top) 3 (printPop (take at (now (line .entry))))
         (now (cells .entry)) (now (log .entry)) a (now (cells .exit)) (now (log .exit)) (now (line .exit)) r) ⌝ }
 {
@@ -171,21 +187,21 @@ fn print(
 pub fn j152(
     cells: &mut [u64],
     log: &mut [u64],
-    line: &mut [u8; 32],
+    line: &mut Line,
     a: Acted,
     top: u16,
-    letters: &[u8; 23],
-    counts: &[u16; 23],
+    letters: &Letters,
+    counts: &Counts,
     n: usize,
     room: usize,
 ) -> Printed
-    requires { ⌜ Room (now log) 3 × (length (now line) ≡ 32) ⌝ }
+    requires { ⌜ Room (now log) 3 × (length (now line) ≡ longestLine) ⌝ }
     ensures { λ r. ⌜ RanLine (Known (tableOf (now (letters .entry)) (now (counts .entry)) n) room top) 3 J152
         (now (cells .entry)) (now (log .entry)) a (now (cells .exit)) (now (log .exit)) (now (line .exit)) r ⌝ }
 {
-    let w = acts::own(cells, 1);
+    let w = acts::own(cells, limits::H0);
     let x = cells::symbol(w);
-    let at = symbol_text(line, letters, counts, n, top, x);
+    let at = symbol_text(line, letters, counts, n, x);
     print(cells, log, line, a, top, room, at)
 }
 
@@ -193,16 +209,16 @@ pub fn j152(
 pub fn j153(
     cells: &mut [u64],
     log: &mut [u64],
-    line: &mut [u8; 32],
+    line: &mut Line,
     a: Acted,
     top: u16,
     room: usize,
 ) -> Printed
-    requires { ⌜ Room (now log) 3 × (length (now line) ≡ 32) ⌝ }
+    requires { ⌜ Room (now log) 3 × (length (now line) ≡ longestLine) ⌝ }
     ensures { λ r. ⌜ ((rs : List Region) → RanLine (Known rs room top) 3 J153
         (now (cells .entry)) (now (log .entry)) a (now (cells .exit)) (now (log .exit)) (now (line .exit)) r) ⌝ }
 {
-    let w = acts::own(cells, 1);
+    let w = acts::own(cells, limits::H0);
     let g = acts::integer_at(cells, a, (w / cells::SYMB % 65536) as u16);
     let b = g.go;
     let at = integer_text(line, g.v);
@@ -210,8 +226,8 @@ pub fn j153(
 }
 
 // A line whose cycle has been accepted goes out, from byte n on.
-pub fn write_line(out: &mut [u8], n: usize, line: &[u8; 32], len: usize) -> usize
-    requires { ⌜ (n + len ≤ length (now out)) × (length (now line) ≡ 32) × (len ≤ 32) ⌝ }
+pub fn write_line(out: &mut [u8], n: usize, line: &Line, len: usize) -> usize
+    requires { ⌜ (n + len ≤ length (now out)) × (length (now line) ≡ longestLine) × (len ≤ longestLine) ⌝ }
     ensures { λ r. ⌜ (r ≡ n + len) × Copies (now (out .entry)) n (take len (now (line .entry))) (now (out .exit)) r ⌝ }
 {
     let mut i = 0;

@@ -8,7 +8,7 @@ ghost use Rattle.undo.specs.Log.{Room};
 ghost use Rattle.undo.specs.Did.{Top, reservedBy, Did};
 use paper::Refusal;
 use paper::Symbol;
-use processes::H0;
+use paper::limits;
 use undo::Acted;
 
 // An empty word with LINK 0.
@@ -72,7 +72,7 @@ pub fn j60(cells: &mut [u64], log: &mut [u64], a: Acted, top: u16) -> Acted
     requires { ⌜ Room (now log) 10 ⌝ }
     ensures { λ r. ⌜ Did (Top top) 10 J60 (now (cells .entry)) (now (log .entry)) a (now (cells .exit)) (now (log .exit)) r tt ⌝ }
 {
-    let w0 = acts::own(cells, H0);
+    let w0 = acts::own(cells, limits::H0);
     let g = acts::named(cells, a, (w0 / cells::SYMB % 65536) as u16);
     let w = g.x;
     let b = g.go;
@@ -86,8 +86,8 @@ pub fn j63(cells: &mut [u64], log: &mut [u64], a: Acted, top: u16) -> Acted
     requires { ⌜ Room (now log) 10 ⌝ }
     ensures { λ r. ⌜ Did (Top top) 10 J63 (now (cells .entry)) (now (log .entry)) a (now (cells .exit)) (now (log .exit)) r tt ⌝ }
 {
-    let w0 = acts::own(cells, H0);
-    let g = acts::below(cells, a, w0);
+    let w0 = acts::own(cells, limits::H0);
+    let g = acts::below(cells, a, limits::H0, w0);
     let c = (g.x / cells::SYMB % 65536) as u16;
     let b = g.go;
     let d = acts::preserve(cells, log, b, c);
@@ -99,13 +99,14 @@ pub fn j64(cells: &mut [u64], log: &mut [u64], a: Acted, top: u16) -> Acted
     requires { ⌜ Room (now log) 9 ⌝ }
     ensures { λ r. ⌜ Did (Top top) 9 J64 (now (cells .entry)) (now (log .entry)) a (now (cells .exit)) (now (log .exit)) r tt ⌝ }
 {
-    let w0 = acts::own(cells, H0);
-    let g = acts::below(cells, a, w0);
+    let w0 = acts::own(cells, limits::H0);
+    let g = acts::below(cells, a, limits::H0, w0);
     let c = (g.x / cells::SYMB % 65536) as u16;
     let b = g.go;
-    let f = acts::named(cells, b, c);
+    let f = acts::word_to(cells, b, c);
     let w = f.x;
-    let d = f.go;
+    let h = f.go;
+    let d = acts::not_own(h, c);
     let q = (w0 / cells::Q % 256) as u8;
     let x = (w0 / cells::SYMB % 65536) as u16;
     let v = cells::of_fields(0, q, x, (w % 65536) as u16);
@@ -133,9 +134,9 @@ pub fn j68(cells: &mut [u64], log: &mut [u64], a: Acted, top: u16) -> Acted
     requires { ⌜ Room (now log) 7 ⌝ }
     ensures { λ r. ⌜ Did (Top top) 7 J68 (now (cells .entry)) (now (log .entry)) a (now (cells .exit)) (now (log .exit)) r tt ⌝ }
 {
-    let w0 = acts::own(cells, H0);
+    let w0 = acts::own(cells, limits::H0);
     let c = (w0 / cells::SYMB % 65536) as u16;
-    let g = acts::word_at(cells, a, c);
+    let g = acts::word_to(cells, a, c);
     let l = (g.x % 65536) as u16;
     let b = g.go;
     let d = undo::refuse_if(b, l == c, Refusal::NotToBeFreed(c));

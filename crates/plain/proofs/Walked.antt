@@ -8,6 +8,7 @@ use native.Mathlib.Numerals.{add-one}
 use native.Mathlib.Omega.{arith}
 use lib.ListN.{length, getD, take, set, replicate}
 use lib.Seq.{length-take-le, take-suc, append-snoc, set-at}
+use Rattle.paper.specs.Limits.{largestN}
 use Rattle.paper.specs.declared.RunAnswer.{RunAnswer}
 use Rattle.paper.specs.declared.RunAnswer.the-variants.{Finished, Refused as Stopped}
 use Rattle.paper.specs.declared.Refusal.{Refusal}
@@ -33,24 +34,24 @@ use Rattle.plain.proofs.Settled.{unfit-size, unfit-unsound, fit, size-i
 
 -- the first i of the order, and zeros
 abbrev pub upTo : ℕ → List ℕ → List ℕ
-upTo i order = take i order ++ replicate (16384 - i) 0
+upTo i order = take i order ++ replicate (largestN - i) 0
 
-one-less : (i : ℕ) → i < 16384 → replicate {A = ℕ} (16384 - i) 0 ≡ 0 ∷ replicate (16384 - suc i) 0
-one-less i h = let e : 16384 - i ≡ suc (16384 - suc i) = omega arith in ap (λ k. replicate {A = ℕ} k 0) e
+one-less : (i : ℕ) → i < largestN → replicate {A = ℕ} (largestN - i) 0 ≡ 0 ∷ replicate (largestN - suc i) 0
+one-less i h = let e : largestN - i ≡ suc (largestN - suc i) = omega arith in ap (λ k. replicate {A = ℕ} k 0) e
 
-module _ (order : List ℕ) (sized : length order ≡ 16384) where
+module _ (order : List ℕ) (sized : length order ≡ largestN) where
   -- one cell more
-  pub one-more : (i : ℕ) → i < 16384 → set (upTo i order) i (getD order i 0) ≡ upTo (i + 1) order
+  pub one-more : (i : ℕ) → i < largestN → set (upTo i order) i (getD order i 0) ≡ upTo (i + 1) order
   one-more i h =
       rw add-one
       (ap (λ l. set (take i order ++ l) i (getD order i 0)) (one-less i h)
       ∙ set-at (take i order) 0 _ _ i (length-take-le i order (omega arith))
       ∙ sym (append-snoc (take i order) _ _)
-      ∙ ap (λ l. l ++ replicate (16384 - suc i) 0) (sym (take-suc order i 0 (omega arith))))
+      ∙ ap (λ l. l ++ replicate (largestN - suc i) 0) (sym (take-suc order i 0 (omega arith))))
 
   -- all of them
-  pub all-met : (n : ℕ) → n ≤ 16384 → upTo n order ≡ padded (take n order)
-  all-met n h = ap (λ k. take n order ++ replicate (16384 - k) 0) (sym (length-take-le n order (omega arith)))
+  pub all-met : (n : ℕ) → n ≤ largestN → upTo n order ≡ padded (take n order)
+  all-met n h = ap (λ k. take n order ++ replicate (largestN - k) 0) (sym (length-take-le n order (omega arith)))
 
 module _ (c : ℕ) (r : Regions) (s : List ℕ) where
   pub walk-unfit : {a : RunAnswer} → unfit r s ≡ some a → metOf (walked a []) ≡ walkOn c r s
@@ -78,7 +79,7 @@ module _ (c : ℕ) (r : Regions) (s : List ℕ) where
       read e = came (subst (λ a. Reads Always (walkBack c) s Done a (back (w .n) order)) e (l .says))
 
       -- the cells met stand in the order, last first in the definition
-      pub walk-done : w .go ≡ Done → w .n ≤ 16384 → {cells : List ℕ} → cells ≡ padded (take (w .n) order)
+      pub walk-done : w .go ≡ Done → w .n ≤ largestN → {cells : List ℕ} → cells ≡ padded (take (w .n) order)
           → record { answer = Finished; n = w .n; cells = cells } ≡ walkOn c r s
       unfolding left _>>_ ret afterWalk
       walk-done e few f =

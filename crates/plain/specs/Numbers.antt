@@ -1,5 +1,5 @@
 -- A plain action on the lent numbers and a table: as `plainly` of paper/specs/Plain has it. Numbers or a table out of form are 20 too.
-use Prim.Native.Nat.{ℕ}
+use Prim.Native.Nat.{ℕ, _+_, _*_}
 use mathlib.Core.Path.{_≡_}
 use mathlib.Core.Bool.{true, false}
 use mathlib.Core.List.{List, []}
@@ -7,6 +7,7 @@ use mathlib.Core.Option.{Option, none, some}
 use lib.ListN.{length}
 use Rattle.paper.specs.declared.RunAnswer.{RunAnswer}
 use Rattle.paper.specs.declared.RunAnswer.the-variants.{Finished, BadSize, NotSound, Refused as Stopped}
+use Rattle.paper.specs.Limits.{largestN, firstDeck}
 use Rattle.paper.specs.Cell.{endOfRegions, sizeFits}
 use Rattle.paper.specs.Act.{Act}
 use Rattle.paper.specs.Plain.{Acted as Plainly, plainly, preserveH0}
@@ -50,7 +51,7 @@ plainOn m r s = elim (unfit r s) [ some a ↦ numbers a s | none ↦ inNumbers (
 pub record Passed (r : Regions) (s : List ℕ) (top : ℕ) : Type 0 where
   pub size : sizeFits (length s) ≡ true
   pub sound : storeSound r s ≡ true
-  pub end : endOfRegions (regionsOf r) 221 ≡ top
+  pub end : endOfRegions (regionsOf r) firstDeck ≡ top
 
 abbrev pub Asks : Regions → List ℕ → Asked → Type 0
 Asks r s (Top top) = Passed r s top
@@ -60,6 +61,10 @@ Asks r s (Not a) = unfit r s ≡ some a
 abbrev pub settledAs : Acted → List ℕ → List ℕ → Numbers
 settledAs Done l s = numbers Finished s
 settledAs (Refused e) l s = numbers (Stopped e) (rewindOf l s)
+
+-- the last place of the log: a copy makes three writes a cell and six more, and a write takes two places
+abbrev pub logLast : ℕ
+logLast = 2 * (3 * largestN + 6)
 
 abbrev pub actionOf : Action → Act (Unit {0})
 actionOf Preserve = preserveH0

@@ -3,15 +3,16 @@ use Prim.Native.Nat.{ℕ, _-_}
 use mathlib.Core.List.{List, [], _++_}
 use mathlib.Core.Option.{none, some}
 use lib.ListN.{length, replicate}
+use Rattle.paper.specs.Limits.{largestN}
 use Rattle.paper.specs.Plain.{Walked, walked, walkCall}
 use Rattle.sound.specs.declared.Regions.{Regions}
 use Rattle.sound.specs.Store.{stateWith}
 use Rattle.plain.specs.declared.Met.{Met}
 use Rattle.plain.specs.Numbers.{unfit}
 
--- cells, and zeros up to 16,384
+-- cells, and zeros up to the largest N
 abbrev pub padded : List ℕ → List ℕ
-padded cs = cs ++ replicate (16384 - length cs) 0
+padded cs = cs ++ replicate (largestN - length cs) 0
 
 -- the outcome of a walk: its answer, how many cells, and the cells
 abbrev pub metOf : Walked → Met

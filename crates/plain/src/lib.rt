@@ -4,6 +4,7 @@ ghost use mathlib.Core.Path.{_≡_};
 ghost use Prim.Native.Nat.{_+_, _*_, _≤_};
 ghost use mathlib.Core.List.{[]};
 ghost use lib.ListN.{length, take};
+ghost use Rattle.paper.specs.Limits.{largestN};
 ghost use Rattle.paper.specs.Plain.{preserveH0, walked};
 ghost use Rattle.paper.specs.Process.{J72, J74};
 ghost use Rattle.undo.specs.declared.Acted.the-variants.{Done};
@@ -14,8 +15,14 @@ ghost use Rattle.plain.specs.Numbers.{numbers, plainOn, Asks, settledAs,
 ghost use Rattle.plain.specs.Walks.{padded, metOf, walkOn};
 use paper::RunAnswer;
 use paper::Symbol;
+use paper::limits;
 use sound::Regions;
 use undo::Acted;
+use walk::Marks;
+use walk::Order;
+
+// A copy makes three writes a cell and six more; the log takes two numbers a write, and one to count them.
+const LOG: usize = 2 * (3 * limits::LARGEST_N + 6) + 1;
 
 // Where the regions of a sound store end, or the answer.
 enum Asked {
@@ -59,8 +66,8 @@ enum Action {
 fn act(
     cells: &mut [u64],
     log: &mut [u64],
-    order: &mut [u16; 16384],
-    marks: &mut [u16; 16384],
+    order: &mut Order,
+    marks: &mut Marks,
     what: Action,
     top: u16,
 ) -> Acted
@@ -69,7 +76,7 @@ fn act(
         (now (cells .entry)) (now (log .entry)) Done (now (cells .exit)) (now (log .exit)) r tt ⌝ }
 {
     match what {
-        Action::Preserve => acts::preserve(cells, log, Acted::Done, 1),
+        Action::Preserve => acts::preserve(cells, log, Acted::Done, limits::H0),
         Action::Copy => structures::j74(cells, log, order, marks, Acted::Done, top),
         Action::Erase => structures::j72(cells, log, order, marks, Acted::Done, top),
     }
@@ -82,9 +89,9 @@ fn plainly(cells: &mut [u64], regions: Regions, what: Action) -> RunAnswer
     match q {
         Asked::Not(a) => a,
         Asked::Top(top) => {
-            let mut log = [0u64; 98320];
-            let mut order = [0u16; 16384];
-            let mut marks = [0u16; 16384];
+            let mut log = [0u64; LOG];
+            let mut order = [0u16; limits::LARGEST_N];
+            let mut marks = [0u16; limits::LARGEST_N];
             let go = act(cells, &mut log, &mut order, &mut marks, what, top);
             settle(cells, &log, go)
         }
@@ -116,7 +123,7 @@ pub fn erase(cells: &mut [u64], regions: Regions) -> RunAnswer
 pub struct Met {
     pub answer: RunAnswer,
     pub n: usize,
-    pub cells: [u16; 16384],
+    pub cells: Order,
 }
 
 fn none_met(a: RunAnswer) -> Met
@@ -125,16 +132,16 @@ fn none_met(a: RunAnswer) -> Met
     Met {
         answer: a,
         n: 0,
-        cells: [0; 16384],
+        cells: [0; limits::LARGEST_N],
     }
 }
 
 // The first n cells of the order, and zeros.
-fn in_order(order: &[u16; 16384], n: usize) -> [u16; 16384]
-    requires { ⌜ (n ≤ 16384) × (length (now order) ≡ 16384) ⌝ }
+fn in_order(order: &Order, n: usize) -> Order
+    requires { ⌜ (n ≤ largestN) × (length (now order) ≡ largestN) ⌝ }
     ensures { λ r. ⌜ r ≡ padded (take n (now (order .entry))) ⌝ }
 {
-    let mut cells = [0u16; 16384];
+    let mut cells = [0u16; limits::LARGEST_N];
     let mut i = 0;
     while i < n {
         cells[i] = order[i];
@@ -151,8 +158,8 @@ pub fn walk(cells: &[u64], regions: Regions, x: Symbol) -> Met
     match q {
         Asked::Not(a) => none_met(a),
         Asked::Top(_) => {
-            let mut order = [0u16; 16384];
-            let mut marks = [0u16; 16384];
+            let mut order = [0u16; limits::LARGEST_N];
+            let mut marks = [0u16; limits::LARGEST_N];
             let w = walk::walk(cells, &mut order, &mut marks, Acted::Done, x.num);
             let n = w.n;
             let go = w.go;

@@ -1,43 +1,30 @@
 // The processes but J1, lists (crate lists), integers, walks and printing: line by line the blocks of paper/specs/Process. Each takes the
 // answer so far and does nothing where that is a refusal. (0), (1) are the symbols down H0: the words w0, w1.
 ghost use mathlib.Core.Path.{_≡_};
-ghost use mathlib.Core.Bool.{_||_};
 ghost use Prim.Native.Nat.{_≤_};
-ghost use Rattle.paper.specs.Cell.{isHW, isProcess};
 ghost use Rattle.paper.specs.Process.{sign, setH5, tests, J2, J5, J6, J9, moveTo, J2n, J3n, J4n, J5n, J90, J124, testsTag, J131, retags};
-ghost use Rattle.cells.specs.Layout.{unpackOf};
 ghost use Rattle.undo.specs.Log.{Room};
 ghost use Rattle.undo.specs.Did.{Always, Top, Did};
 ghost use Rattle.processes.specs.Tagged.{tagged};
 use paper::Refusal;
 use paper::Symbol;
+use paper::limits;
 use undo::Acted;
-
-// Cells by their names.
-pub const H0: u16 = 1;
-
-const H5: u16 = 6;
-
-const W0: u16 = 11;
-
-const J3: u16 = 24;
-
-const J4: u16 = 25;
 
 fn sign(plus: bool) -> Symbol
     ensures { λ r. ⌜ r ≡ sign plus ⌝ }
 {
     if plus {
-        return Symbol::regional(J4);
+        return Symbol::regional(limits::J4);
     }
-    Symbol::regional(J3)
+    Symbol::regional(limits::J3)
 }
 
 pub fn set_h5(cells: &mut [u64], log: &mut [u64], a: Acted, plus: bool)
     requires { ⌜ Room (now log) 1 ⌝ }
     ensures { λ _. ⌜ Did Always 1 (setH5 plus) (now (cells .entry)) (now (log .entry)) a (now (cells .exit)) (now (log .exit)) a tt ⌝ }
 {
-    acts::own_store(cells, log, a, H5, sign(plus));
+    acts::own_store(cells, log, a, limits::H5, sign(plus));
 }
 
 pub fn tests1(cells: &mut [u64], log: &mut [u64], a: Acted, top: u16, plus: bool) -> Acted
@@ -60,8 +47,8 @@ pub fn j2(cells: &mut [u64], log: &mut [u64], a: Acted, top: u16) -> Acted
     requires { ⌜ Room (now log) 7 ⌝ }
     ensures { λ r. ⌜ Did (Top top) 7 J2 (now (cells .entry)) (now (log .entry)) a (now (cells .exit)) (now (log .exit)) r tt ⌝ }
 {
-    let w0 = acts::own(cells, H0);
-    let g = acts::below(cells, a, w0);
+    let w0 = acts::own(cells, limits::H0);
+    let g = acts::below(cells, a, limits::H0, w0);
     let w1 = g.x;
     let b = g.go;
     tests2(
@@ -77,8 +64,13 @@ pub fn j5(cells: &mut [u64], log: &mut [u64], a: Acted)
     requires { ⌜ Room (now log) 1 ⌝ }
     ensures { λ _. ⌜ Did Always 1 J5 (now (cells .entry)) (now (log .entry)) a (now (cells .exit)) (now (log .exit)) a tt ⌝ }
 {
-    let h = acts::own(cells, H5);
-    set_h5(cells, log, a, (h / cells::SYMB % 65536) as u16 == J3);
+    let h = acts::own(cells, limits::H5);
+    set_h5(
+        cells,
+        log,
+        a,
+        (h / cells::SYMB % 65536) as u16 == limits::J3,
+    );
 }
 
 // The second pop and the first push are one.
@@ -86,8 +78,8 @@ pub fn j6(cells: &mut [u64], log: &mut [u64], a: Acted, top: u16) -> Acted
     requires { ⌜ Room (now log) 12 ⌝ }
     ensures { λ r. ⌜ Did (Top top) 12 J6 (now (cells .entry)) (now (log .entry)) a (now (cells .exit)) (now (log .exit)) r tt ⌝ }
 {
-    let w0 = acts::own(cells, H0);
-    let g = acts::below(cells, a, w0);
+    let w0 = acts::own(cells, limits::H0);
+    let g = acts::below(cells, a, limits::H0, w0);
     let w1 = g.x;
     let b = g.go;
     let d = acts::pop(cells, log, b, top);
@@ -99,7 +91,7 @@ pub fn j9(cells: &mut [u64], log: &mut [u64], a: Acted, top: u16) -> Acted
     requires { ⌜ Room (now log) 5 ⌝ }
     ensures { λ r. ⌜ Did (Top top) 5 J9 (now (cells .entry)) (now (log .entry)) a (now (cells .exit)) (now (log .exit)) r tt ⌝ }
 {
-    let w0 = acts::own(cells, H0);
+    let w0 = acts::own(cells, limits::H0);
     let c = (w0 / cells::SYMB % 65536) as u16;
     let g = acts::touch(cells, a, c);
     let b = g.go;
@@ -113,7 +105,7 @@ fn move_to(cells: &mut [u64], log: &mut [u64], a: Acted, top: u16, w: u16) -> Ac
     requires { ⌜ Room (now log) 4 ⌝ }
     ensures { λ r. ⌜ Did (Top top) 4 (moveTo w) (now (cells .entry)) (now (log .entry)) a (now (cells .exit)) (now (log .exit)) r tt ⌝ }
 {
-    let w0 = acts::own(cells, H0);
+    let w0 = acts::own(cells, limits::H0);
     acts::own_store(cells, log, a, w, cells::symbol(w0));
     acts::pop(cells, log, a, top)
 }
@@ -125,10 +117,10 @@ pub fn j2n(cells: &mut [u64], log: &mut [u64], a: Acted, top: u16, n: u16) -> Ac
     let mut go = a;
     let mut i: u16 = 0;
     while i < n {
-        go = move_to(cells, log, go, top, W0 + i);
+        go = move_to(cells, log, go, top, limits::W0 + i);
         i += 1;
     }
-    move_to(cells, log, go, top, W0 + i)
+    move_to(cells, log, go, top, limits::W0 + i)
 }
 
 pub fn j3n(cells: &mut [u64], log: &mut [u64], a: Acted, top: u16, n: u16) -> Acted
@@ -138,10 +130,10 @@ pub fn j3n(cells: &mut [u64], log: &mut [u64], a: Acted, top: u16, n: u16) -> Ac
     let mut go = a;
     let mut i: u16 = 0;
     while i < n {
-        go = acts::restore(cells, log, go, top, W0 + i);
+        go = acts::restore(cells, log, go, top, limits::W0 + i);
         i += 1;
     }
-    acts::restore(cells, log, go, top, W0 + i)
+    acts::restore(cells, log, go, top, limits::W0 + i)
 }
 
 pub fn j4n(cells: &mut [u64], log: &mut [u64], a: Acted, n: u16) -> Acted
@@ -151,10 +143,10 @@ pub fn j4n(cells: &mut [u64], log: &mut [u64], a: Acted, n: u16) -> Acted
     let mut go = a;
     let mut i: u16 = 0;
     while i < n {
-        go = acts::preserve(cells, log, go, W0 + i);
+        go = acts::preserve(cells, log, go, limits::W0 + i);
         i += 1;
     }
-    acts::preserve(cells, log, go, W0 + i)
+    acts::preserve(cells, log, go, limits::W0 + i)
 }
 
 pub fn j5n(cells: &mut [u64], log: &mut [u64], a: Acted, top: u16, n: u16) -> Acted
@@ -175,23 +167,17 @@ pub fn j90(cells: &mut [u64], log: &mut [u64], a: Acted) -> Acted
     acts::push(cells, log, go, Symbol::internal(n))
 }
 
-// What is not cleared: a process, or an H or W cell.
-fn not_cleared(c: u16, x: u64) -> bool
-    ensures { λ r. ⌜ r ≡ (isProcess (unpackOf x) || isHW c) ⌝ }
-{
-    cells::is_process(x) || acts::reserved(21, c)
-}
-
 pub fn j124(cells: &mut [u64], log: &mut [u64], a: Acted, top: u16) -> Acted
     requires { ⌜ Room (now log) 7 ⌝ }
     ensures { λ r. ⌜ Did (Top top) 7 J124 (now (cells .entry)) (now (log .entry)) a (now (cells .exit)) (now (log .exit)) r tt ⌝ }
 {
-    let w0 = acts::own(cells, H0);
+    let w0 = acts::own(cells, limits::H0);
     let c = (w0 / cells::SYMB % 65536) as u16;
-    let g = acts::touch(cells, a, c);
+    let g = acts::target(cells, a, c);
     let b = g.go;
-    let go = undo::refuse_if(b, not_cleared(c, g.x), Refusal::WrongKind(c));
-    undo::put(cells, log, go, c, cells::of_integer(cells::ZERO));
+    let d = undo::refuse_if(b, cells::is_process(g.x), Refusal::WrongKind(c));
+    let go = undo::refuse_if(d, acts::reserved(limits::J0, c), Refusal::WrongKind(c));
+    undo::put(cells, log, go, c, cells::of_term(cells::ZERO));
     acts::gives1(cells, log, go, top, cells::symbol(w0))
 }
 
@@ -200,7 +186,7 @@ pub fn tests_tag(cells: &mut [u64], log: &mut [u64], a: Acted, top: u16, tag: u8
     requires { ⌜ Room (now log) 4 ⌝ }
     ensures { λ r. ⌜ Did (Top top) 4 (testsTag tag) (now (cells .entry)) (now (log .entry)) a (now (cells .exit)) (now (log .exit)) r tt ⌝ }
 {
-    let w0 = acts::own(cells, H0);
+    let w0 = acts::own(cells, limits::H0);
     tests1(cells, log, a, top, (w0 / cells::Q % 256) as u8 == tag)
 }
 
@@ -208,12 +194,12 @@ pub fn j131(cells: &mut [u64], log: &mut [u64], a: Acted, top: u16) -> Acted
     requires { ⌜ Room (now log) 4 ⌝ }
     ensures { λ r. ⌜ Did (Top top) 4 J131 (now (cells .entry)) (now (log .entry)) a (now (cells .exit)) (now (log .exit)) r tt ⌝ }
 {
-    let w0 = acts::own(cells, H0);
+    let w0 = acts::own(cells, limits::H0);
     let c = (w0 / cells::SYMB % 65536) as u16;
     let g = acts::touch(cells, a, c);
     let b = g.go;
     let go = acts::not_own(b, c);
-    tests1(cells, log, go, top, cells::is_integer(g.x))
+    tests1(cells, log, go, top, cells::is_term(g.x))
 }
 
 // J136, J138: (0) gets this tag.
@@ -221,7 +207,7 @@ pub fn retags(cells: &mut [u64], log: &mut [u64], a: Acted, top: u16, tag: u8) -
     requires { ⌜ Room (now log) 6 ⌝ }
     ensures { λ r. ⌜ Did (Top top) 6 (retags (tagged tag)) (now (cells .entry)) (now (log .entry)) a (now (cells .exit)) (now (log .exit)) r tt ⌝ }
 {
-    let w0 = acts::own(cells, H0);
+    let w0 = acts::own(cells, limits::H0);
     let x = Symbol {
         tag: tag,
         num: (w0 / cells::SYMB % 65536) as u16,

@@ -9,6 +9,7 @@ use native.Mathlib.Omega.{arith}
 use borrow.Author.Tests.{leb-true, ltb-true, eqb-true, le-leb, lt-leb}
 use lib.Dec.{leb, ltb, eqb}
 use Rattle.paper.specs.declared.Refusal.the-variants.{NotListed}
+use Rattle.paper.specs.Cell.{J}
 use Rattle.paper.specs.Act.{refuse, ifThen}
 use Rattle.paper.specs.Walk.{member}
 use Rattle.paper.specs.Process.{Entry, performIn}
@@ -50,7 +51,7 @@ outside-high : (f u n : ℕ) → n < f → leb f n && leb n u ≡ false
 outside-high f u n h = rw (lt-leb f n h)
 
 -- a number apart from the one number of an entry
-apart : (f u n : ℕ) → f ≡ u → n ≢ f → leb f n && leb n u ≡ false
+pub apart : (f u n : ℕ) → f ≡ u → n ≢ f → leb f n && leb n u ≡ false
 apart f u n e z = go (leb f n) refl
   where
     go : (b : Bool) → leb f n ≡ b → b && leb n u ≡ false
@@ -62,7 +63,8 @@ unfolding entryFor performIn
 entry-does [] e a b n h p q = absurd (let z : _≡_ {A = ℕ} 0 1 = cc in omega arith)
 entry-does (x ∷ es) e a b n h p q = go (leb (x .from) a && leb b (x .upTo)) refl (ltb (x .upTo) a || ltb b (x .from)) refl h (entry-does es e a b n)
   where
-    here : leb (x .from) a && leb b (x .upTo) ≡ true → x .does (n - x .from) ≡ ifThen (leb (x .from) n && leb n (x .upTo)) (x .does (n - x .from)) (performIn es n)
+    here : leb (x .from) a && leb b (x .upTo) ≡ true
+        → x .does (n - x .from) ≡ ifThen (leb (x .from) n && leb n (x .upTo)) (x .does (n - x .from)) (performIn es n)
     here t =
         let k = and-true (leb (x .from) a) (leb b (x .upTo)) t in
         let f = leb-true (x .from) a (k .0) in
@@ -83,7 +85,7 @@ entry-does (x ∷ es) e a b n h p q = go (leb (x .from) a && leb b (x .upTo)) re
     go false t true u h k = k h p q ∙ if-no _ (past u)
     go false t false u h k = absurd (let z : _≡_ {A = ℕ} 0 1 = cc in omega arith)
 
-pub none-does : (es : List Entry) (a b n : ℕ) (ks : List ℕ) → noneFor es a b ks ≡ true → a ≤ n → n ≤ b → NoneOf ks n → refuse (NotListed n) ≡ performIn es n
+pub none-does : (es : List Entry) (a b n : ℕ) (ks : List ℕ) → noneFor es a b ks ≡ true → a ≤ n → n ≤ b → NoneOf ks n → refuse (NotListed (J n)) ≡ performIn es n
 unfolding noneFor performIn
 none-does [] a b n ks h p q z = refl
 none-does (x ∷ es) a b n ks h p q z =

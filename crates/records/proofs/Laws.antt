@@ -1,5 +1,5 @@
 -- Laws of symbols and records: a symbol by its class, an integer's value, a record by its kind.
-use Prim.Native.Nat.{ℕ, zero, suc, _+_, _-_, _*_, _^_, _<_, _≤_}
+use Prim.Native.Nat.{ℕ, zero, suc, _+_, _-_, _*_, _<_, _≤_}
 use mathlib.Core.Bool.{Bool, true, false, cond, _&&_, _||_, and-false}
 use mathlib.Core.List.{List, [], _∷_}
 use mathlib.Core.Logic.{_⊎_, ⊎-elim}
@@ -14,9 +14,10 @@ use lib.IntN.{ℤ, pos, negsuc}
 use Rattle.paper.specs.Step.{choose}
 use Rattle.paper.specs.declared.Field.{Field}
 use Rattle.paper.specs.declared.Field.the-variants.{Regional, Local, Zero, Blank}
-use Rattle.paper.specs.Record.{region, routine, datum, number, field, guard, signed32, byteAt, recordAt, regionAt, routineAt}
-use Rattle.paper.specs.Record.{datumAt, numberAt, startAt, startWith, onField, mayName, maySymb, mayLinkData, pairAt, fieldAt, sizeOf}
-use Rattle.paper.specs.Sound.{isLetter}
+use Rattle.paper.specs.Limits.{largestNumber, largestP, manyLocals, halfRange}
+use Rattle.paper.specs.Region.{isLetter}
+use Rattle.paper.specs.Record.{region, routine, datum, number, field, guard, signed32, byteAt, nameAt, recordAt, regionAt, routineAt}
+use Rattle.paper.specs.Record.{datumAt, numberAt, startAt, startWith, given, nameAs, maySymb, mayLinkData, pairAt, fieldAt, sizeOf}
 use Rattle.cells.specs.Layout.{valueOf}
 use Rattle.records.specs.Symbols.{Written, symbolsIn, symbolsAt, placeOf, symbolAt}
 use Rattle.cells.proofs.Laws.{value-low, value-high}
@@ -50,7 +51,7 @@ no-kind a b c d e (suc (suc (suc (suc (suc (suc k)))))) p q r s t = refl
 
 -- a symbol by its class
 module _ (b n : ℕ) where
-  pub field-regional : 65 ≤ b → b ≤ 90 → field b n ≡ cond (leb n 9999) (some (Regional b n)) none
+  pub field-regional : 65 ≤ b → b ≤ 90 → field b n ≡ cond (leb n largestNumber) (some (Regional b n)) none
   unfolding field
   field-regional g h =
       simp (
@@ -70,7 +71,7 @@ module _ (b n : ℕ) where
       no-letter : isLetter b ≡ false
       no-letter = ⊎-elim (λ (h : b < 65). simp (lt-leb 65 b h)) (λ (h : 90 < b). simp (lt-leb b 90 h, and-false)) g
 
-pub field-local : (n : ℕ) → field 57 n ≡ cond (leb n 63) (some (Local n)) none
+pub field-local : (n : ℕ) → field 57 n ≡ cond (ltb n manyLocals) (some (Local n)) none
 unfolding field
 field-local n = simp (choose-cond, choose-none)
 
@@ -89,17 +90,19 @@ signed-low t x y e = rw e
 signed-high : (t : Bool) (x y : ℤ) → t ≡ false → _≡_ {A = ℤ} (elim t as (λ _. ℤ) [ true ↦ x | false ↦ y ]) y
 signed-high t x y e = rw e
 
-pub excess-low : (n : ℕ) → n < 2 ^ 31 → valueOf (n + 2 ^ 31) ≡ signed32 n
+pub excess-low : (n : ℕ) → n < halfRange → valueOf (n + halfRange) ≡ signed32 n
 unfolding signed32
 excess-low n h =
-    let e : n + 2 ^ 31 - 2 ^ 31 ≡ n = omega arith in
-    value-high (n + 2 ^ 31) (omega arith) ∙ ap pos e ∙ sym (signed-low (ltb n (2 ^ 31)) (pos n) (negsuc (2 ^ 32 - 1 - n)) (lt-ltb n (2 ^ 31) h))
+    let e : n + halfRange - halfRange ≡ n = omega arith in
+    value-high (n + halfRange) (omega arith) ∙ ap pos e
+    ∙ sym (signed-low (ltb n halfRange) (pos n) (negsuc (halfRange + halfRange - 1 - n)) (lt-ltb n halfRange h))
 
-pub excess-high : (n : ℕ) → 2 ^ 31 ≤ n → n < 2 ^ 32 → valueOf (n - 2 ^ 31) ≡ signed32 n
+pub excess-high : (n : ℕ) → halfRange ≤ n → n < halfRange + halfRange → valueOf (n - halfRange) ≡ signed32 n
 unfolding signed32
 excess-high n g h =
-    let e : 2 ^ 31 - suc (n - 2 ^ 31) ≡ 2 ^ 32 - 1 - n = omega arith in
-    value-low (n - 2 ^ 31) (omega arith) ∙ ap negsuc e ∙ sym (signed-high (ltb n (2 ^ 31)) (pos n) (negsuc (2 ^ 32 - 1 - n)) (le-ltb n (2 ^ 31) g))
+    let e : halfRange - suc (n - halfRange) ≡ halfRange + halfRange - 1 - n = omega arith in
+    value-low (n - halfRange) (omega arith) ∙ ap negsuc e
+    ∙ sym (signed-high (ltb n halfRange) (pos n) (negsuc (halfRange + halfRange - 1 - n)) (le-ltb n halfRange g))
 
 -- a record by its kind
 module _ (r : List ℕ) where
@@ -115,12 +118,15 @@ module _ (r : List ℕ) where
   unfolding recordAt
   kind-4 k = simp (choose-cond, k)
 
-  kind-5 : (kind : ℕ) → kind ≡ byteAt r 0 → (kind ≡ 1 → ⊥) → (kind ≡ 2 → ⊥) → (kind ≡ 3 → ⊥) → (kind ≡ 4 → ⊥) → recordAt r ≡ startAt r
+  kind-5 : byteAt r 0 ≡ 5 → recordAt r ≡ startAt r
   unfolding recordAt
-  kind-5 kind k a b c d = simp (choose-cond, choose-none, ← k, ne-eqb kind 1 a, ne-eqb kind 2 b, ne-eqb kind 3 c, ne-eqb kind 4 d)
+  kind-5 k = simp (choose-cond, k)
 
-one-symbol : (kind : ℕ) → (kind ≡ 1 → ⊥) → (kind ≡ 2 → ⊥) → (kind ≡ 3 → ⊥) → symbolsIn kind ≡ 1
-one-symbol kind a b c = simp (ne-eqb kind 1 a, ne-eqb kind 2 b, ne-eqb kind 3 c)
+  pub kind-none : (kind : ℕ) → kind ≡ byteAt r 0 → (kind ≡ 1 → ⊥) → (kind ≡ 2 → ⊥) → (kind ≡ 3 → ⊥) → (kind ≡ 4 → ⊥) → (kind ≡ 5 → ⊥)
+      → recordAt r ≡ none
+  unfolding recordAt
+  kind-none kind k a b c d e =
+      simp (choose-cond, choose-none, ← k, ne-eqb kind 1 a, ne-eqb kind 2 b, ne-eqb kind 3 c, ne-eqb kind 4 d, ne-eqb kind 5 e)
 
 -- from its symbols
 module _ (r : List ℕ) (fs : List Field) (kind : ℕ) (k : kind ≡ byteAt r 0) (w : Written kind r fs (symbolsIn kind)) where
@@ -128,55 +134,59 @@ module _ (r : List ℕ) (fs : List Field) (kind : ℕ) (k : kind ≡ byteAt r 0)
   written n e = subst (λ (x : ℕ). Written x r fs (symbolsIn x)) e w
 
   pub record-1 : kind ≡ 1
-      → recordAt r ≡ guard (isLetter (byteAt r 1) && leb 1 (pairAt r 2) && leb (pairAt r 2) 9999) (some (region (byteAt r 1) (pairAt r 2)))
+      → recordAt r ≡ guard (isLetter (byteAt r 1) && leb 1 (pairAt r 2) && leb (pairAt r 2) largestNumber) (some (region (byteAt r 1) (pairAt r 2)))
   unfolding recordAt regionAt
   record-1 e = simp (choose-cond, sym k ∙ e)
 
   pub record-2 : kind ≡ 2
-      → recordAt r ≡ guard (mayName (symbolAt fs 0) && maySymb (symbolAt fs 1) && leb (byteAt r 4) 7 && leb (byteAt r 5) 2)
-      (some (routine (symbolAt fs 0) (byteAt r 4) (byteAt r 5) (symbolAt fs 1) (symbolAt fs 2)))
-  unfolding routineAt onField
+      → recordAt r ≡ given (nameAs (symbolAt fs 0)) (λ name. guard (maySymb (symbolAt fs 1) && leb (byteAt r 4) largestP && leb (byteAt r 5) 2)
+      (some (routine name (byteAt r 4) (byteAt r 5) (symbolAt fs 1) (symbolAt fs 2))))
+  unfolding routineAt nameAt given
   record-2 e = let v = written 2 e in kind-2 r (sym k ∙ e) ∙ simp (v .are 0 (omega arith), v .are 1 (omega arith), v .are 2 (omega arith))
 
   pub record-3 : kind ≡ 3
-      → recordAt r ≡ guard (mayName (symbolAt fs 0) && mayLinkData (symbolAt fs 2)) (some (datum (symbolAt fs 0) (symbolAt fs 1) (symbolAt fs 2)))
-  unfolding datumAt onField
+      → recordAt r ≡ given (nameAs (symbolAt fs 0)) (λ name. guard (mayLinkData (symbolAt fs 2)) (some (datum name (symbolAt fs 1) (symbolAt fs 2))))
+  unfolding datumAt nameAt given
   record-3 e = let v = written 3 e in kind-3 r (sym k ∙ e) ∙ simp (v .are 0 (omega arith), v .are 1 (omega arith), v .are 2 (omega arith))
 
   pub record-4 : kind ≡ 4
-      → recordAt r ≡ guard (mayName (symbolAt fs 0)) (some (number (symbolAt fs 0) (signed32 (pairAt r 4 * 65536 + pairAt r 6))))
-  unfolding numberAt onField
+      → recordAt r ≡ given (nameAs (symbolAt fs 0)) (λ name. some (number name (signed32 (pairAt r 4 * 65536 + pairAt r 6))))
+  unfolding numberAt nameAt given
   record-4 e = kind-4 r (sym k ∙ e) ∙ simp (written 4 e .are 0 (omega arith))
 
-  pub record-5 : (kind ≡ 1 → ⊥) → (kind ≡ 2 → ⊥) → (kind ≡ 3 → ⊥) → (kind ≡ 4 → ⊥) → recordAt r ≡ startWith (symbolAt fs 0)
-  unfolding startAt onField
-  record-5 a b c d = kind-5 r kind k a b c d ∙ simp (w .are 0 (omega (arith, one-symbol kind a b c)))
+  pub record-5 : kind ≡ 5 → recordAt r ≡ startWith (symbolAt fs 0)
+  unfolding startAt given
+  record-5 e = kind-5 r (sym k ∙ e) ∙ simp (written 5 e .are 0 (omega arith))
 
 -- a symbol that is not well written spoils its record
-module _ {A : Type 0} (o : Option Field) (f : Field → Option A) where
-  none-first : o ≡ none → onField o f ≡ none
-  unfolding onField
+module _ {A B : Type 0} (o : Option A) (f : A → Option B) where
+  none-first : o ≡ none → given o f ≡ none
+  unfolding given
   none-first e = rw e
 
-  none-after : ((x : Field) → f x ≡ none) → onField o f ≡ none
-  unfolding onField
+  none-after : ((x : A) → f x ≡ none) → given o f ≡ none
+  unfolding given
   none-after h = go o
     where
-      go : (o : Option Field) → onField o f ≡ none
+      go : (o : Option A) → given o f ≡ none
       go none = refl
       go (some x) = h x
 
 module _ (r : List ℕ) where
+  bad-name : fieldAt r 1 ≡ none → nameAt r ≡ none
+  unfolding nameAt
+  bad-name e = none-first _ _ e
+
   bad-routine : (i : ℕ) → i < 3 → fieldAt r (placeOf 2 i) ≡ none → routineAt r ≡ none
   unfolding routineAt
-  bad-routine zero h e = none-first _ _ e
+  bad-routine zero h e = none-first _ _ (bad-name e)
   bad-routine (suc zero) h e = none-after _ _ λ x. none-first _ _ e
   bad-routine (suc (suc zero)) h e = none-after _ _ λ x. none-after _ _ λ y. none-first _ _ e
   bad-routine (suc (suc (suc i))) h e = absurd (omega arith)
 
   bad-datum : (i : ℕ) → i < 3 → fieldAt r (placeOf 3 i) ≡ none → datumAt r ≡ none
   unfolding datumAt
-  bad-datum zero h e = none-first _ _ e
+  bad-datum zero h e = none-first _ _ (bad-name e)
   bad-datum (suc zero) h e = none-after _ _ λ x. none-first _ _ e
   bad-datum (suc (suc zero)) h e = none-after _ _ λ x. none-after _ _ λ y. none-first _ _ e
   bad-datum (suc (suc (suc i))) h e = absurd (omega arith)
@@ -187,7 +197,7 @@ module _ (r : List ℕ) where
 
   pub bad-symbol : (kind i : ℕ) → kind ≡ byteAt r 0 → i < symbolsIn kind → fieldAt r (placeOf kind i) ≡ none → recordAt r ≡ none
   unfolding numberAt startAt
-  bad-symbol kind i k h e = go (ℕ-discrete kind 1) (ℕ-discrete kind 2) (ℕ-discrete kind 3) (ℕ-discrete kind 4)
+  bad-symbol kind i k h e = go (ℕ-discrete kind 1) (ℕ-discrete kind 2) (ℕ-discrete kind 3) (ℕ-discrete kind 4) (ℕ-discrete kind 5)
     where
       at : (n : ℕ) → kind ≡ n → i < symbolsIn n
       at n p = subst (λ (x : ℕ). i < symbolsIn x) p h
@@ -195,12 +205,13 @@ module _ (r : List ℕ) where
       there : (n : ℕ) → kind ≡ n → fieldAt r (placeOf n i) ≡ none
       there n p = subst (λ (x : ℕ). fieldAt r (placeOf x i) ≡ none) p e
 
-      go : Dec (kind ≡ 1) → Dec (kind ≡ 2) → Dec (kind ≡ 3) → Dec (kind ≡ 4) → recordAt r ≡ none
-      go (yes p) _ _ _ = absurd (omega (arith, at 1 p))
-      go (no a) (yes p) _ _ = kind-2 r (sym k ∙ p) ∙ bad-routine i (at 2 p) (there 2 p)
-      go (no a) (no b) (yes p) _ = kind-3 r (sym k ∙ p) ∙ bad-datum i (at 3 p) (there 3 p)
-      go (no a) (no b) (no c) (yes p) = kind-4 r (sym k ∙ p) ∙ none-first _ _ (bad-only 4 i (at 4 p) (there 4 p))
-      go (no a) (no b) (no c) (no d) = kind-5 r kind k a b c d ∙ none-first _ _ (bad-only kind i (omega (arith, h, one-symbol kind a b c)) e)
+      go : Dec (kind ≡ 1) → Dec (kind ≡ 2) → Dec (kind ≡ 3) → Dec (kind ≡ 4) → Dec (kind ≡ 5) → recordAt r ≡ none
+      go (yes p) _ _ _ _ = absurd (omega (arith, at 1 p))
+      go (no a) (yes p) _ _ _ = kind-2 r (sym k ∙ p) ∙ bad-routine i (at 2 p) (there 2 p)
+      go (no a) (no b) (yes p) _ _ = kind-3 r (sym k ∙ p) ∙ bad-datum i (at 3 p) (there 3 p)
+      go (no a) (no b) (no c) (yes p) _ = kind-4 r (sym k ∙ p) ∙ none-first _ _ (bad-name (bad-only 4 i (at 4 p) (there 4 p)))
+      go (no a) (no b) (no c) (no d) (yes p) = kind-5 r (sym k ∙ p) ∙ none-first _ _ (bad-only 5 i (at 5 p) (there 5 p))
+      go (no a) (no b) (no c) (no d) (no f) = kind-none r kind k a b c d f
 
 -- the symbols of a record that is whole, and of any
 pub all-symbols : (r : List ℕ) (kind : ℕ) → kind ≡ byteAt r 0 → (sizeOf kind ≡ 0 → ⊥) → sizeOf kind ≤ length r → symbolsAt r ≡ symbolsIn kind

@@ -8,10 +8,14 @@ use lib.Dec.{eqb, ltb}
 use lib.ListN.{getD, length}
 use Rattle.paper.specs.declared.Field.{Field}
 use Rattle.paper.specs.declared.Field.the-variants.{Regional}
-use Rattle.paper.specs.Record.{Record, region, routine, datum, number, start, byteAt, sizeOf, fieldAt}
+use Rattle.paper.specs.Record.{Name, inRegion, asLocal, noName, Record, region, routine, datum, number, start, byteAt, sizeOf, fieldAt}
 use Rattle.cells.specs.Layout.{valueOf}
 use Rattle.records.specs.declared.Read.{Read}
 use Rattle.records.specs.declared.Read.the-variants.{Symbol, Nothing}
+use Rattle.records.specs.declared.Name.{Name as CodeName}
+use Rattle.records.specs.declared.Name.the-variants.{Regional as InRegion, Local as AsLocal, Blank as NoName}
+use Rattle.records.specs.declared.Named.{Named}
+use Rattle.records.specs.declared.Named.the-variants.{As, Nothing as NotNamed}
 use Rattle.records.specs.declared.Record.{Record as CodeRecord}
 use Rattle.records.specs.declared.Record.the-variants.{Region, Routine, Datum, Number, Start}
 use Rattle.records.specs.declared.Parsed.{Parsed}
@@ -21,11 +25,20 @@ abbrev pub readOf : Read → Option Field
 readOf (Symbol f) = some f
 readOf Nothing = none
 
+abbrev pub nameOf : CodeName → Name
+nameOf (InRegion b n) = inRegion b n
+nameOf (AsLocal n) = asLocal n
+nameOf NoName = noName
+
+abbrev pub namedOf : Named → Option Name
+namedOf (As x) = some (nameOf x)
+namedOf NotNamed = none
+
 abbrev pub recordOf : CodeRecord → Record
 recordOf (Region b n) = region b n
-recordOf (Routine name p q symb link) = routine name p q symb link
-recordOf (Datum name symb link) = datum name symb link
-recordOf (Number name v) = number name (valueOf v)
+recordOf (Routine name p q symb link) = routine (nameOf name) p q symb link
+recordOf (Datum name symb link) = datum (nameOf name) symb link
+recordOf (Number name v) = number (nameOf name) (valueOf v)
 recordOf (Start b n) = start b n
 
 abbrev pub parsedOf : Parsed → Option Record

@@ -4,19 +4,30 @@ ghost use Prim.Native.Nat.{_+_, _*_};
 ghost use mathlib.Core.Bool.{cond, _&&_};
 ghost use mathlib.Core.Option.{none, some};
 ghost use lib.Dec.{leb};
-ghost use Rattle.paper.specs.Record.{region, routine, datum, number, byteAt, pairAt, field, fieldAt, sizeOf, mayName, maySymb, mayLinkData};
-ghost use Rattle.paper.specs.Record.{guard, signed32, startWith, recordAt};
-ghost use Rattle.paper.specs.Sound.{isLetter};
+ghost use Rattle.paper.specs.Limits.{largestNumber, largestP};
+ghost use Rattle.paper.specs.Region.{isLetter};
+ghost use Rattle.paper.specs.Record.{region, routine, datum, number, byteAt, pairAt, field, fieldAt, sizeOf, nameAs, maySymb, mayLinkData};
+ghost use Rattle.paper.specs.Record.{given, guard, signed32, startWith, recordAt};
 ghost use Rattle.cells.specs.Layout.{valueOf};
-ghost use Rattle.records.specs.Symbols.{readOf, recordOf, parsedOf, symbolsIn, symbolsAt, placeOf, Written};
+ghost use Rattle.records.specs.Symbols.{readOf, namedOf, recordOf, parsedOf, symbolsIn, symbolsAt, placeOf, Written};
 use paper::Field;
+use paper::limits;
+
+const MANY_LOCALS: u16 = limits::MANY_LOCALS as u16;
+
+// The NAME of a record.
+pub enum Name {
+    Regional(u8, u16),
+    Local(u16),
+    Blank,
+}
 
 // A record; an integer is its value + 2^31.
 pub enum Record {
     Region(u8, u16),
-    Routine(Field, u8, u8, Field, Field),
-    Datum(Field, Field, Field),
-    Number(Field, u32),
+    Routine(Name, u8, u8, Field, Field),
+    Datum(Name, Field, Field),
+    Number(Name, u32),
     Start(u8, u16),
 }
 
@@ -29,6 +40,12 @@ pub enum Parsed {
 // A symbol of a record; nothing where its bytes break the rules (4).
 pub enum Read {
     Symbol(Field),
+    Nothing,
+}
+
+// A NAME; nothing where the symbol may not be one (4).
+enum Named {
+    As(Name),
     Nothing,
 }
 
@@ -70,10 +87,10 @@ fn field(class: u8, n: u16) -> Read
     ensures { λ x. ⌜ readOf x ≡ field class n ⌝ }
 {
     match class {
-        65..=90 => only(n <= 9999, Field::Regional(class, n)),
-        57 => only(n <= 63, Field::Local(n)),
-        48 => only(n == 0, Field::Zero),
-        32 => only(n == 0, Field::Blank),
+        b'A'..=b'Z' => only(n <= limits::LARGEST_NUMBER, Field::Regional(class, n)),
+        b'9' => only(n < MANY_LOCALS, Field::Local(n)),
+        b'0' => only(n == 0, Field::Zero),
+        b' ' => only(n == 0, Field::Blank),
         _ => Read::Nothing,
     }
 }
@@ -139,14 +156,14 @@ pub fn symbol(r: &[u8], kind: u8, i: usize) -> Read
 }
 
 // "A NAME of class `0` is 4".
-fn may_name(f: Field) -> bool
-    ensures { λ x. ⌜ x ≡ mayName f ⌝ }
+fn name_as(f: Field) -> Named
+    ensures { λ x. ⌜ namedOf x ≡ nameAs f ⌝ }
 {
     match f {
-        Field::Regional(_, _) => true,
-        Field::Local(_) => true,
-        Field::Zero => false,
-        Field::Blank => true,
+        Field::Regional(b, n) => Named::As(Name::Regional(b, n)),
+        Field::Local(n) => Named::As(Name::Local(n)),
+        Field::Zero => Named::Nothing,
+        Field::Blank => Named::As(Name::Blank),
     }
 }
 
@@ -185,32 +202,35 @@ fn whole(b: bool, x: Record) -> Parsed
 
 // "region: letter, count 1..9,999"
 fn region(b: u8, n: u16) -> Parsed
-    ensures { λ p. ⌜ parsedOf p ≡ guard (isLetter b && leb 1 n && leb n 9999) (some (region b n)) ⌝ }
+    ensures { λ p. ⌜ parsedOf p ≡ guard (isLetter b && leb 1 n && leb n largestNumber) (some (region b n)) ⌝ }
 {
     whole(
-        (65 <= b) & (b <= 90) & (1 <= n) & (n <= 9999),
+        (b'A' <= b) & (b <= b'Z') & (1 <= n) & (n <= limits::LARGEST_NUMBER),
         Record::Region(b, n),
     )
 }
 
 // "routine word: NAME, P, Q, SYMB, LINK"; "P is 0..7, Q is 0..2."
-fn routine(name: Field, p: u8, q: u8, symb: Field, link: Field) -> Parsed
-    ensures { λ x. ⌜ parsedOf x ≡ guard (mayName name && maySymb symb && leb p 7 && leb q 2) (some (routine name p q symb link)) ⌝ }
+fn routine(named: Named, p: u8, q: u8, symb: Field, link: Field) -> Parsed
+    ensures { λ x. ⌜ parsedOf x ≡ given (namedOf named) (λ name. guard (maySymb symb && leb p largestP && leb q 2) (some (routine name p q symb link))) ⌝ }
 {
+    let Named::As(name) = named else {
+        return Parsed::Nothing;
+    };
     whole(
-        may_name(name) & may_symb(symb) & (p <= 7) & (q <= 2),
+        may_symb(symb) & (p <= limits::LARGEST_P) & (q <= limits::LARGEST_Q),
         Record::Routine(name, p, q, symb, link),
     )
 }
 
 // "data word: NAME, SYMB, LINK"
-fn datum(name: Field, symb: Field, link: Field) -> Parsed
-    ensures { λ x. ⌜ parsedOf x ≡ guard (mayName name && mayLinkData link) (some (datum name symb link)) ⌝ }
+fn datum(named: Named, symb: Field, link: Field) -> Parsed
+    ensures { λ x. ⌜ parsedOf x ≡ given (namedOf named) (λ name. guard (mayLinkData link) (some (datum name symb link))) ⌝ }
 {
-    whole(
-        may_name(name) & may_link_data(link),
-        Record::Datum(name, symb, link),
-    )
+    let Named::As(name) = named else {
+        return Parsed::Nothing;
+    };
+    whole(may_link_data(link), Record::Datum(name, symb, link))
 }
 
 // "signed 32 bits", as the value + 2^31
@@ -230,13 +250,13 @@ fn long(high: u16, low: u16) -> u32
 }
 
 // "integer: NAME, signed 32 bits"
-fn number(name: Field, high: u16, low: u16) -> Parsed
-    ensures { λ x. ⌜ parsedOf x ≡ guard (mayName name) (some (number name (signed32 (high * 65536 + low)))) ⌝ }
+fn number(named: Named, high: u16, low: u16) -> Parsed
+    ensures { λ x. ⌜ parsedOf x ≡ given (namedOf named) (λ name. some (number name (signed32 (high * 65536 + low)))) ⌝ }
 {
-    whole(
-        may_name(name),
-        Record::Number(name, excess(long(high, low))),
-    )
+    let Named::As(name) = named else {
+        return Parsed::Nothing;
+    };
+    Parsed::Is(Record::Number(name, excess(long(high, low))))
 }
 
 // "start symbol, regional"
@@ -251,19 +271,20 @@ fn start(f: Field) -> Parsed
     }
 }
 
-// The record of a known kind that begins at r, by its symbols.
+// The record that begins at r, by its symbols.
 pub fn parse(r: &[u8], kind: u8, symbols: [Field; 3]) -> Parsed
     requires { ⌜ (kind ≡ byteAt (now r) 0) × Written kind (now r) symbols (symbolsIn kind) ⌝ }
     ensures { λ x. ⌜ parsedOf x ≡ recordAt (now (r .entry)) ⌝ }
 {
-    let name = symbols[0];
+    let first = symbols[0];
     let symb = symbols[1];
     let link = symbols[2];
     match kind {
         1 => region(byte_at(r, 1), pair_at(r, 2)),
-        2 => routine(name, byte_at(r, 4), byte_at(r, 5), symb, link),
-        3 => datum(name, symb, link),
-        4 => number(name, pair_at(r, 4), pair_at(r, 6)),
-        _ => start(name),
+        2 => routine(name_as(first), byte_at(r, 4), byte_at(r, 5), symb, link),
+        3 => datum(name_as(first), symb, link),
+        4 => number(name_as(first), pair_at(r, 4), pair_at(r, 6)),
+        5 => start(first),
+        _ => Parsed::Nothing,
     }
 }

@@ -5,7 +5,7 @@ use mathlib.Core.List.{List, [], _∷_}
 use native.Mathlib.Omega.{arith}
 use lib.ListN.{length, getD}
 use lib.IntN.{pos, negsuc}
-use Rattle.paper.specs.Cell.{Cell, free, word, integer, process, State}
+use Rattle.paper.specs.Cell.{Cell, free, word, term, integer, process, State}
 use Rattle.paper.proofs.SoundStore.{Frame, at, CellOk, Sound}
 use Rattle.cells.specs.Pack.{CellFits, AllFormed, packOf, packed}
 use Rattle.cells.specs.Bridge.{unpacked}
@@ -20,8 +20,8 @@ cell-fits F c (word w) k = record {
   symb = omega (arith, k .symb<, F .small);
   link = omega (arith, k .link<, F .small);
 }
-cell-fits F c (integer (pos n)) k = omega (arith, k .range)
-cell-fits F c (integer (negsuc n)) k = omega (arith, k .range)
+cell-fits F c (term (integer (pos n))) k = omega (arith, k .range)
+cell-fits F c (term (integer (negsuc n))) k = omega (arith, k .range)
 cell-fits F c process k = tt
 
 abbrev pub EachFits : List Cell → Type 0

@@ -6,12 +6,12 @@ use native.Mathlib.Omega.{arith}
 use borrow.Author.Tests.{lt-ltb, eq-eqb, ne-eqb, ltb-true, ltb-false, eqb-true, eqb-false}
 use lib.Dec.{ltb, leb, eqb}
 use lib.IntN.{ℤ, pos, negsuc}
-use Rattle.paper.specs.Cell.{word, fits32}
+use Rattle.paper.specs.Cell.{word, integer, termFits}
 use Rattle.paper.specs.Sound.{wordSound, cellSound, isZeros}
 use Rattle.paper.proofs.SoundStore.{and-true as both}
 use Rattle.cells.specs.Layout.{unpackOf, wordOf, pOf, qOf, symbOf, linkOf, valueOf}
-use Rattle.cells.specs.Pack.{packOf, IntegerFits, a-word, a-free, an-integer, a-process}
-use Rattle.cells.proofs.Laws.{by-kind, cond-same, unpack-word, unpack-free, unpack-integer, unpack-process, pack-unpack, excess-value, value-fits}
+use Rattle.cells.specs.Pack.{packOf, IntegerFits, a-word, a-free, a-term, a-process}
+use Rattle.cells.proofs.Laws.{by-kind, cond-same, unpack-word, unpack-free, unpack-term, unpack-process, pack-unpack, excess-value, value-fits}
 use Rattle.sound.specs.Store.{formed, numberSound}
 
 -- a test that says whether two numbers are equal
@@ -29,14 +29,14 @@ formed-free x g h =
     decided (packOf (unpackOf x)) x (ltb x (2 ^ 48 + 2 ^ 16)) (λ e. pack-unpack x (a-free g (ltb-true _ _ e)))
     (λ e q. let l = ltb-false x (2 ^ 48 + 2 ^ 16) e in omega (arith, ap packOf (unpack-free x g h)))
 
-integer-packs : (x : ℕ) → 2 * 2 ^ 48 ≤ x → x < 3 * 2 ^ 48 → packOf (unpackOf x) ≡ 2 * 2 ^ 48 + x % 2 ^ 32
-integer-packs x g h = ap packOf (unpack-integer x g h) ∙ ap (λ (a : ℕ). 2 * 2 ^ 48 + a) (excess-value (x % 2 ^ 32))
+term-packs : (x : ℕ) → 2 * 2 ^ 48 ≤ x → x < 3 * 2 ^ 48 → packOf (unpackOf x) ≡ 2 * 2 ^ 48 + x % 2 ^ 32
+term-packs x g h = ap packOf (unpack-term x g h) ∙ ap (λ (a : ℕ). 2 * 2 ^ 48 + a) (excess-value (x % 2 ^ 32))
 
-formed-integer : (x : ℕ) → 2 * 2 ^ 48 ≤ x → x < 3 * 2 ^ 48 → formed x ≡ ltb x (2 * 2 ^ 48 + 2 ^ 32)
+formed-term : (x : ℕ) → 2 * 2 ^ 48 ≤ x → x < 3 * 2 ^ 48 → formed x ≡ ltb x (2 * 2 ^ 48 + 2 ^ 32)
 unfolding formed
-formed-integer x g h =
-    decided (packOf (unpackOf x)) x (ltb x (2 * 2 ^ 48 + 2 ^ 32)) (λ e. pack-unpack x (an-integer g (ltb-true _ _ e)))
-    (λ e q. let l = ltb-false x (2 * 2 ^ 48 + 2 ^ 32) e in omega (arith, integer-packs x g h))
+formed-term x g h =
+    decided (packOf (unpackOf x)) x (ltb x (2 * 2 ^ 48 + 2 ^ 32)) (λ e. pack-unpack x (a-term g (ltb-true _ _ e)))
+    (λ e q. let l = ltb-false x (2 * 2 ^ 48 + 2 ^ 32) e in omega (arith, term-packs x g h))
 
 formed-process : (x : ℕ) → 3 * 2 ^ 48 ≤ x → formed x ≡ eqb x (3 * 2 ^ 48)
 unfolding formed
@@ -44,7 +44,7 @@ formed-process x g =
     decided (packOf (unpackOf x)) x (eqb x (3 * 2 ^ 48)) (λ e. pack-unpack x (a-process (eqb-true _ _ e)))
     (λ e q. eqb-false x (3 * 2 ^ 48) e (omega (arith, ap packOf (unpack-process x g))))
 
-in-32 : (z : ℤ) → IntegerFits z → fits32 z ≡ true
+in-32 : (z : ℤ) → IntegerFits z → termFits (integer z) ≡ true
 in-32 (pos n) h = lt-ltb n (2 ^ 31) h
 in-32 (negsuc n) h = lt-ltb n (2 ^ 31) h
 
@@ -58,11 +58,11 @@ module _ (n end c x : ℕ) where
   unfolding numberSound cellSound
   number-free g h = rw (formed-free x g h, unpack-free x g h) (and-assoc (ltb x (2 ^ 48 + 2 ^ 16)) (leb end c) (ltb (linkOf x) n))
 
-  pub number-integer : 2 * 2 ^ 48 ≤ x → x < 3 * 2 ^ 48 → (ltb x (2 * 2 ^ 48 + 2 ^ 32) && leb 221 c) ≡ numberSound n end c x
+  pub number-term : 2 * 2 ^ 48 ≤ x → x < 3 * 2 ^ 48 → (ltb x (2 * 2 ^ 48 + 2 ^ 32) && leb 221 c) ≡ numberSound n end c x
   unfolding numberSound cellSound
-  number-integer g h =
+  number-term g h =
       let f = in-32 (valueOf (x % 2 ^ 32)) (value-fits (x % 2 ^ 32) (omega arith)) in
-      rw (formed-integer x g h, unpack-integer x g h, f, and-true (leb 221 c))
+      rw (formed-term x g h, unpack-term x g h, f, and-true (leb 221 c))
 
   pub number-process : 3 * 2 ^ 48 ≤ x → (eqb x (3 * 2 ^ 48) && leb 21 c && ltb c 221) ≡ numberSound n end c x
   unfolding numberSound cellSound

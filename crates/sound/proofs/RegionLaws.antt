@@ -1,14 +1,13 @@
 -- A definition that goes along the regions, at the rest of a table from number i on: what one turn of a loop does, and its end.
 use Prim.Native.Nat.{ℕ, _+_, _<_, _≤_}
-use mathlib.Core.Bool.{Bool, true, false, _&&_, _||_, not, and-false}
+use mathlib.Core.Bool.{Bool, true, false, _&&_, _||_, or-true, or-false}
 use mathlib.Core.List.{List, [], _∷_}
 use mathlib.Core.Path.{_≡_, refl, sym}
-use borrow.Author.Tests.{eq-eqb, ne-eqb}
+use borrow.Author.Tests.{eq-eqb, ne-eqb, eqb-true, eqb-false}
 use lib.Dec.{eqb, leb}
 use lib.ListN.{length, getD, drop}
-use Rattle.paper.specs.Cell.{Region, endOfRegions}
-use Rattle.paper.specs.Deck.{letterTaken}
-use Rattle.paper.specs.Sound.{isLetter, isTaken, newLetter, regionsSound}
+use Rattle.paper.specs.Limits.{largestNumber}
+use Rattle.paper.specs.Region.{Region, layout, endOfRegions, letterTaken, newLetter, regionsSound}
 use Rattle.sound.specs.declared.Regions.{Regions}
 use Rattle.sound.specs.Table.{regionsOf}
 use Rattle.sound.proofs.TableLaws.{rest-more, rest-none}
@@ -16,16 +15,29 @@ use Rattle.sound.proofs.TableLaws.{rest-more, rest-none}
 abbrev pub rest : Regions → ℕ → List Region
 rest r i = drop i (regionsOf r)
 
--- a letter that is new is one that is not taken
-pub new-letter : (b : ℕ) (rs : List Region) → newLetter b rs ≡ (isLetter b && not (letterTaken rs b))
-unfolding newLetter letterTaken
-new-letter b [] = refl
-new-letter b (r ∷ rs) = step (eqb (r .letter) b) (new-letter b rs)
+-- H, W and J are the first regions of the layout: a letter taken there is one of these, or taken in rs
+eqb-sym : (a b : ℕ) → eqb a b ≡ eqb b a
+eqb-sym a b = go (eqb b a) refl
   where
-    step : (t : Bool) → newLetter b rs ≡ (isLetter b && not (letterTaken rs b))
-        → (not t && newLetter b rs) ≡ (isLetter b && not (t || letterTaken rs b))
-    step true e = sym (and-false (isLetter b))
-    step false e = e
+    go : (t : Bool) → eqb b a ≡ t → eqb a b ≡ t
+    go true e = eq-eqb a b (sym (eqb-true b a e))
+    go false e = ne-eqb a b (λ q. eqb-false b a e (sym q))
+
+regroup : (x y z t : Bool) → (x || (y || (z || t))) ≡ (x || y || z || t)
+regroup true y z t = refl
+regroup false true z t = refl
+regroup false false z t = refl
+
+in-layout : (b : ℕ) (rs : List Region) → letterTaken (layout rs) b ≡ (eqb b 0x48 || eqb b 0x57 || eqb b 0x4A || letterTaken rs b)
+unfolding letterTaken
+in-layout b rs =
+    rw (eqb-sym b 0x48, eqb-sym b 0x57, eqb-sym b 0x4A) (regroup (eqb 0x48 b) (eqb 0x57 b) (eqb 0x4A b) (letterTaken rs b))
+
+pub taken-there : (b : ℕ) (rs : List Region) → letterTaken rs b ≡ true → true ≡ letterTaken (layout rs) b
+taken-there b rs e = rw (in-layout b rs, e) (sym (or-true (eqb b 0x48 || eqb b 0x57 || eqb b 0x4A)))
+
+pub not-there : (b : ℕ) (rs : List Region) → letterTaken rs b ≡ false → (eqb b 0x48 || eqb b 0x57 || eqb b 0x4A) ≡ letterTaken (layout rs) b
+not-there b rs e = rw (in-layout b rs, e) (sym (or-false (eqb b 0x48 || eqb b 0x57 || eqb b 0x4A)))
 
 module _ (r : Regions) (i : ℕ) (here : i < length (regionsOf r)) where
   pub end-more : (at k : ℕ) → k ≡ getD (r .counts) i 0 → endOfRegions (rest r (i + 1)) (at + k) ≡ endOfRegions (rest r i) at
@@ -41,7 +53,7 @@ module _ (r : Regions) (i : ℕ) (here : i < length (regionsOf r)) where
   taken-more b e = rw (rest-more r i here, ne-eqb (getD (r .letters) i 0) b e)
 
   pub sound-turn : (n at k : ℕ) (t f : Bool) → t ≡ newLetter (getD (r .letters) i 0) (rest r (i + 1)) → k ≡ getD (r .counts) i 0
-      → (t && leb 1 k && leb k 9999 && leb (at + k) n) ≡ f → (f && regionsSound n (at + k) (rest r (i + 1))) ≡ regionsSound n at (rest r i)
+      → (t && leb 1 k && leb k largestNumber && leb (at + k) n) ≡ f → (f && regionsSound n (at + k) (rest r (i + 1))) ≡ regionsSound n at (rest r i)
   unfolding regionsSound
   sound-turn n at k t f e g h = rw (rest-more r i here, ← h, e, g)
 
@@ -50,7 +62,7 @@ module _ (r : Regions) (i : ℕ) (past : length (regionsOf r) ≤ i) where
   unfolding endOfRegions
   end-none at = rw (rest-none r i past)
 
-  pub taken-none : (b : ℕ) → isTaken b ≡ letterTaken (rest r i) b
+  pub taken-none : (b : ℕ) → letterTaken (rest r i) b ≡ false
   unfolding letterTaken
   taken-none b = rw (rest-none r i past)
 

@@ -7,8 +7,10 @@ use native.Mathlib.Omega.{arith}
 use borrow.Author.Tests.{eq-eqb, eqb-true, leb-true, le-leb}
 use lib.Dec.{leb, eqb}
 use lib.ListN.{length}
+use Rattle.paper.specs.Limits.{smallestN, largestN, firstDeck}
 use Rattle.paper.specs.Cell.{endOfRegions, sizeFits}
-use Rattle.paper.specs.Sound.{cellsSound, freeCount, freeList, freeStart, isZeros, regionsSound, sound}
+use Rattle.paper.specs.Sound.{cellsSound, freeCount, freeList, freeStart, isZeros, sound}
+use Rattle.paper.specs.Region.{regionsSound}
 use Rattle.paper.proofs.SoundStore.{and-true as both}
 use Rattle.paper.proofs.SoundTest.{end-at-most}
 use Rattle.cells.specs.Layout.{unpackOf}
@@ -38,7 +40,7 @@ tally-free false n k e = let z : _≡_ {A = ℕ} 0 1 = cc in absurd (omega arith
 
 module _ (r : Regions) (s : List ℕ) where
   abbrev end : ℕ
-  end = endOfRegions (regionsOf r) 221
+  end = endOfRegions (regionsOf r) firstDeck
 
   abbrev passed : Bool
   passed = passes (length s) end 0 s
@@ -47,7 +49,7 @@ module _ (r : Regions) (s : List ℕ) where
   listed k = freeList k (unpacked s) (freeStart (unpacked s))
 
   abbrev tabled : Bool
-  tabled = regionsSound (length s) 221 (regionsOf r)
+  tabled = regionsSound (length s) firstDeck (regionsOf r)
 
   whole : storeSound r s ≡ (leb (r .n) 23 && tabled && isZeros (cellIn s 0) && (passed && listed (freeCount (unpacked s))))
   unfolding storeSound sound cellIn
@@ -97,12 +99,12 @@ unfolding sound
 passed-sound r s lines room e = halves r s e .1
 
 -- its reserved cells end within it
-pub passed-end : (r : Regions) (s : List ℕ) → 221 ≤ length s → storeSound r s ≡ true → endOfRegions (regionsOf r) 221 ≤ length s
+pub passed-end : (r : Regions) (s : List ℕ) → firstDeck ≤ length s → storeSound r s ≡ true → endOfRegions (regionsOf r) firstDeck ≤ length s
 passed-end r s h e =
     let rest = passed r s && listed r s (freeCount (unpacked s)) in
     let a = both (leb (r .n) 23 && tabled r s && isZeros (cellIn s 0)) rest (sym (whole r s) ∙ e) in
     let b = both (leb (r .n) 23 && tabled r s) (isZeros (cellIn s 0)) (a .0) in
-    end-at-most (length s) (regionsOf r) 221 h (both (leb (r .n) 23) (tabled r s) (b .0) .1)
+    end-at-most (length s) (regionsOf r) firstDeck h (both (leb (r .n) 23) (tabled r s) (b .0) .1)
 
 -- in form, a store passes just if that state is sound
 pub in-form : (r : Regions) (s lines : List ℕ) (room : ℕ) → r .n ≤ 23 → AllFormed s → storeSound r s ≡ sound (stateWith r s lines room)
@@ -110,5 +112,5 @@ unfolding storeSound sound
 in-form r s lines room n f = rw (le-leb (r .n) 23 n, all-formed s f)
 
 -- "N from 256 to 16,384"
-pub size-range : (n : ℕ) → sizeFits n ≡ true → (256 ≤ n) × (n ≤ 16384)
-size-range n e = let (a, b) = both (leb 256 n) (leb n 16384) e in (leb-true 256 n a, leb-true n 16384 b)
+pub size-range : (n : ℕ) → sizeFits n ≡ true → (smallestN ≤ n) × (n ≤ largestN)
+size-range n e = let (a, b) = both (leb smallestN n) (leb n largestN) e in (leb-true smallestN n a, leb-true n largestN b)

@@ -9,7 +9,7 @@ use mir.Val.{boolByte}
 use lib.Dec.{eqb}
 use lib.ListN.{length, getD, drop, drop-of-length-le, List·getD-map}
 use lib.Seq.{drop-cons}
-use Rattle.paper.specs.Cell.{Cell, free, word, integer, process, zeros, isFree, freeLink}
+use Rattle.paper.specs.Cell.{Cell, free, word, term, process, zeros, isFree, freeLink}
 use Rattle.paper.specs.Sound.{cellSound, cellsSound, freeCount, freeList}
 use Rattle.cells.specs.Layout.{unpackOf}
 use Rattle.cells.specs.Bridge.{unpacked}
@@ -73,10 +73,10 @@ follow-other true b = refl
 follow-other false b = refl
 
 follow : (k c : ℕ) (cs : List Cell) (x : Cell) → cond (eqb c 0 || not (isFree x)) false (freeList k cs (freeLink x))
-    ≡ elim x [ free l ↦ not (eqb c 0) && freeList k cs l | word w ↦ false | integer z ↦ false | process ↦ false ]
+    ≡ elim x [ free l ↦ not (eqb c 0) && freeList k cs l | word w ↦ false | term t ↦ false | process ↦ false ]
 follow k c cs (free l) = follow-free (eqb c 0) (freeList k cs l)
 follow k c cs (word w) = follow-other (eqb c 0) (freeList k cs 0)
-follow k c cs (integer z) = follow-other (eqb c 0) (freeList k cs 0)
+follow k c cs (term t) = follow-other (eqb c 0) (freeList k cs 0)
 follow k c cs process = follow-other (eqb c 0) (freeList k cs 0)
 
 -- one cell of the list: it is no free cell, or the list goes on at its link

@@ -2,18 +2,30 @@
 ghost use mathlib.Core.Path.{_≡_};
 ghost use Prim.Native.Nat.{_<_, _≤_};
 ghost use lib.ListN.{length, getD, drop};
+ghost use Rattle.paper.specs.Limits.{firstDeck};
 ghost use Rattle.paper.specs.Cell.{endOfRegions, sizeFits};
-ghost use Rattle.paper.specs.Deck.{letterTaken};
-ghost use Rattle.paper.specs.Sound.{newLetter, regionsSound, wordSound, freeList, freeStart};
+ghost use Rattle.paper.specs.Region.{layout, letterTaken, newLetter, regionsSound};
+ghost use Rattle.paper.specs.Sound.{wordSound, freeList, freeStart};
 ghost use Rattle.cells.specs.Layout.{wordOf};
 ghost use Rattle.cells.specs.Bridge.{unpacked};
 ghost use Rattle.sound.specs.Table.{regionsOf, noRegions, withRegion};
 ghost use Rattle.sound.specs.Store.{numberSound, tallyOf, storeSound};
 
+use paper::limits;
+
+// Limits in the widths of the places they are compared at.
+const J0: usize = limits::J0 as usize;
+
+const FIRST_DECK: usize = limits::FIRST_DECK as usize;
+
+const LARGEST_NUMBER: usize = limits::LARGEST_NUMBER as usize;
+
+const LARGEST_P: u64 = limits::LARGEST_P as u64;
+
 // Letter and count of the first n deck regions, in record order. There are 23 letters besides H, W and J.
 pub struct Regions {
-    pub letters: [u8; 23],
-    pub counts: [u16; 23],
+    pub letters: [u8; limits::MANY_REGIONS],
+    pub counts: [u16; limits::MANY_REGIONS],
     pub n: usize,
 }
 
@@ -22,8 +34,8 @@ impl Regions {
         ensures { λ r. ⌜ r ≡ noRegions ⌝ }
     {
         Self {
-            letters: [0; 23],
-            counts: [0; 23],
+            letters: [0; limits::MANY_REGIONS],
+            counts: [0; limits::MANY_REGIONS],
             n: 0,
         }
     }
@@ -33,7 +45,7 @@ impl Regions {
         ensures { λ r. ⌜ r ≡ withRegion self letter count ⌝ }
     {
         let n = self.n;
-        if n < 23 {
+        if n < limits::MANY_REGIONS {
             self.letters[n] = letter;
             self.counts[n] = count;
             self.n = n + 1;
@@ -45,18 +57,18 @@ impl Regions {
     pub fn len(self) -> usize
         ensures { λ r. ⌜ (r ≡ length (regionsOf self)) × (r ≤ 23) ⌝ }
     {
-        if self.n < 23 {
+        if self.n < limits::MANY_REGIONS {
             return self.n;
         }
-        23
+        limits::MANY_REGIONS
     }
 
-    // Where the regions end, laid out from 221.
+    // Where the regions end, laid out from the first deck cell.
     pub fn top(self) -> usize
-        ensures { λ r. ⌜ r ≡ endOfRegions (regionsOf self) 221 ⌝ }
+        ensures { λ r. ⌜ r ≡ endOfRegions (regionsOf self) firstDeck ⌝ }
     {
         let m = self.len();
-        let mut at = 221;
+        let mut at = FIRST_DECK;
         let mut i = 0;
         while i < m {
             at += wide(self.counts[i]);
@@ -67,7 +79,7 @@ impl Regions {
 
     // Whether letter b is H, W or J, or that of a region from number `from` on.
     pub fn letter_taken(self, b: u8, from: usize) -> bool
-        ensures { λ r. ⌜ r ≡ letterTaken (drop from (regionsOf self)) b ⌝ }
+        ensures { λ r. ⌜ r ≡ letterTaken (layout (drop from (regionsOf self))) b ⌝ }
     {
         let m = self.len();
         let mut i = from;
@@ -77,29 +89,29 @@ impl Regions {
             }
             i += 1;
         }
-        (b == 72) | (b == 87) | (b == 74)
+        (b == b'H') | (b == b'W') | (b == b'J')
     }
 
     // Whether a region before those from number `from` on may have letter b.
     fn letter_new(self, b: u8, from: usize) -> bool
         ensures { λ r. ⌜ r ≡ newLetter b (drop from (regionsOf self)) ⌝ }
     {
-        (65 <= b) & (b <= 90) & !self.letter_taken(b, from)
+        (b'A' <= b) & (b <= b'Z') & !self.letter_taken(b, from)
     }
 
     // Whether the regions are sound in n cells.
     pub fn regions_sound(self, n: usize) -> bool
-        ensures { λ r. ⌜ r ≡ regionsSound n 221 (regionsOf self) ⌝ }
+        ensures { λ r. ⌜ r ≡ regionsSound n firstDeck (regionsOf self) ⌝ }
     {
         let m = self.len();
-        let mut at = 221;
+        let mut at = FIRST_DECK;
         let mut i = 0;
         while i < m {
             let letter = self.letters[i];
             let count = wide(self.counts[i]);
             at += count;
             i += 1;
-            if !(self.letter_new(letter, i) & (1 <= count) & (count <= 9999) & (at <= n)) {
+            if !(self.letter_new(letter, i) & (1 <= count) & (count <= LARGEST_NUMBER) & (at <= n)) {
                 return false;
             }
         }
@@ -127,8 +139,8 @@ fn word_sound(x: u64, n: usize, c: usize) -> bool
     let q = x / cells::Q % 256;
     let symb = (x / cells::SYMB % 65536) as usize;
     let link = (x % 65536) as usize;
-    let hw = (0 < c) & (c < 21);
-    (p <= 7) & ((q == 0) | ((q == 1) & !hw) | (q == 2) | (q == 4)) & (symb < n) & (link < n)
+    let hw = (0 < c) & (c < J0);
+    (p <= LARGEST_P) & ((q == 0) | ((q == 1) & !hw) | (q == 2) | (q == 4)) & (symb < n) & (link < n)
 }
 
 // Whether x may be the number of cell c, of n cells of which the reserved ones end at `end`.
@@ -136,15 +148,15 @@ fn number_sound(x: u64, n: usize, end: usize, c: usize) -> bool
     ensures { λ r. ⌜ r ≡ numberSound n end c x ⌝ }
 {
     if x < cells::FREE {
-        return word_sound(x, n, c) & ((c < 21) | (221 <= c));
+        return word_sound(x, n, c) & ((c < J0) | (FIRST_DECK <= c));
     }
-    if x < cells::INTEGER {
+    if x < cells::TERM {
         return (x < cells::FREE + cells::SYMB) & (end <= c) & (((x % 65536) as usize) < n);
     }
     if x < cells::PROCESS {
-        return (x < cells::INTEGER + cells::Q) & (221 <= c);
+        return (x < cells::TERM + cells::Q) & (FIRST_DECK <= c);
     }
-    (x == cells::PROCESS) & (21 <= c) & (c < 221)
+    (x == cells::PROCESS) & (J0 <= c) & (c < FIRST_DECK)
 }
 
 // One pass: whether each number is that of a sound cell, and how many cells are free.
@@ -169,7 +181,7 @@ fn cells_sound(cells: &[u64], end: usize) -> Tally
 fn free_start(cells: &[u64]) -> usize
     ensures { λ r. ⌜ r ≡ freeStart (unpacked (now (cells .entry))) ⌝ }
 {
-    (cells::word_in(cells::peek(cells, 3)) % 65536) as usize
+    (cells::word_in(cells::peek(cells, limits::H2)) % 65536) as usize
 }
 
 // The number at c; past the end, that of a word of zeros.
@@ -203,7 +215,7 @@ fn free_list(cells: &[u64], k: usize, start: usize) -> bool
 pub fn sound(cells: &[u64], regions: Regions) -> bool
     ensures { λ r. ⌜ r ≡ storeSound regions (now (cells .entry)) ⌝ }
 {
-    let table = (regions.n <= 23) & regions.regions_sound(cells.len());
+    let table = (regions.n <= limits::MANY_REGIONS) & regions.regions_sound(cells.len());
     if !(table & (cells::peek(cells, 0) == 0)) {
         return false;
     }
@@ -217,5 +229,5 @@ pub fn sound(cells: &[u64], regions: Regions) -> bool
 pub fn size_fits(n: usize) -> bool
     ensures { λ r. ⌜ r ≡ sizeFits n ⌝ }
 {
-    (256 <= n) & (n <= 16384)
+    (limits::SMALLEST_N <= n) & (n <= limits::LARGEST_N)
 }

@@ -1,33 +1,37 @@
 -- The blocks of an erasure and of a copy, from their loops.
 use Prim.Native.Nat.{ℕ, _+_, _*_, _≤_}
 use mathlib.Core.Path.{_≡_, sym, ap, _∙_, subst}
-use mathlib.Core.List.{List, reverse, reverse-reverse}
+use mathlib.Core.List.{List, reverse-reverse}
 use native.Mathlib.Omega.{arith}
 use lib.ListN.{length, take}
-use Rattle.paper.specs.Act.{Act, _>>=_, _>>_, ret, pop}
+use Rattle.paper.specs.Limits.{largestN}
+use Rattle.paper.specs.Act.{Act, _>>=_, _>>_, ret}
 use Rattle.paper.specs.Walk.{walkBack, noneReserved, releaseAll, eraseBack, takeAll, renamed, copyAll, copy}
-use Rattle.paper.specs.Process.{erases}
 use Rattle.undo.specs.declared.Acted.{Acted}
 use Rattle.undo.specs.Did.{Always, Top, Reads, Did}
 use Rattle.undo.proofs.Lines.{bind, then, reads, give, any, most, alike}
 use Rattle.undo.proofs.Readings.{alike-on}
 use Rattle.walk.specs.Marks.{back, Only}
 use Rattle.walk.specs.declared.Walked.{Walked}
-use Rattle.walk.specs.Walks.{Lists}
+use Rattle.walk.specs.Walks.{Clean, Lists}
 use Rattle.structures.specs.Copies.{newOf, newsOf, Begins}
 use Rattle.structures.proofs.Lists.{renamed-is}
 use Rattle.structures.proofs.Loops.{no-writes}
 
--- "frees the walk in reverse order", then pops
-pub erased : (top n : ℕ) (order : List ℕ) {s l s₁ l₁ s₂ l₂ : List ℕ} {a b r : Acted} → Reads (Top top) (noneReserved (take n order)) s a b tt
-    → Did Always (2 * n) (releaseAll (back n order)) s l b s₁ l₁ b tt → Did (Top top) 3 pop s₁ l₁ b s₂ l₂ r tt
-    → Did (Top top) (2 * n + 3) (erases (back n order)) s l a s₂ l₂ r tt
-unfolding erases eraseBack
-erased top n order f d p =
-    most (2 * n + 3) (omega arith) (then (then (no-writes (alike-on (ap noneReserved (sym (reverse-reverse (take n order)))) f)) (any d)) p)
+-- "frees the walk in reverse order"
+pub erased : (top n : ℕ) (order : List ℕ) {s l s′ l′ : List ℕ} {a r : Acted} → Reads (Top top) (noneReserved (take n order)) s a r tt
+    → Did Always (2 * n) (releaseAll (back n order)) s l r s′ l′ r tt → Did (Top top) (2 * n) (eraseBack (back n order)) s l a s′ l′ r tt
+unfolding eraseBack
+erased top n order f d =
+    most (2 * n) (omega arith) (then (no-writes (alike-on (ap noneReserved (sym (reverse-reverse (take n order)))) f)) (any d))
+
+-- what was walked and freed leaves the scratch clean
+pub lists-clean : {M : Act (List ℕ)} {s s′ order marks : List ℕ} {a : Acted} {r : Walked} → length s ≤ largestN → length s′ ≡ length s
+    → Lists M s a order marks r → Clean s′ order marks
+lists-clean h e w = record { small = omega arith; sized = w .ordered .sized; unmarked = w .unmarked }
 
 -- a copy of what was walked can be begun
-pub lists-begins : {M : Act (List ℕ)} {s order marks : List ℕ} {a : Acted} {r : Walked} → length s ≤ 16384 → Lists M s a order marks r
+pub lists-begins : {M : Act (List ℕ)} {s order marks : List ℕ} {a : Acted} {r : Walked} → length s ≤ largestN → Lists M s a order marks r
     → Begins order marks (r .n)
 lists-begins h w = record {
   few = omega (arith, w .few);

@@ -5,8 +5,9 @@ ghost use mathlib.Core.List.{List};
 ghost use Prim.Native.Nat.{ℕ, _+_, _*_, _≤_};
 ghost use lib.ListN.{length, take};
 ghost use lib.Dec.{eqb};
-ghost use Rattle.paper.specs.Walk.{noneReserved, releaseAll, takeAll, copied, copyAll, copy};
-ghost use Rattle.paper.specs.Process.{erases, J71, J72, J74, copyName};
+ghost use Rattle.paper.specs.Limits.{largestN};
+ghost use Rattle.paper.specs.Walk.{noneReserved, releaseAll, eraseBack, erase, takeAll, copied, copyAll, copy};
+ghost use Rattle.paper.specs.Process.{J71, J72, J74, copyName};
 ghost use Rattle.cells.specs.Layout.{unpackOf, wordOf};
 ghost use Rattle.cells.specs.Pack.{Packs};
 ghost use Rattle.undo.specs.Log.{Room};
@@ -18,11 +19,14 @@ use acts::GotCell;
 use cells::Cell;
 use paper::Refusal;
 use paper::Symbol;
+use paper::limits;
 use undo::Acted;
+use walk::Marks;
+use walk::Order;
 
 // 24 at the first reserved cell among the first n of the order.
-fn none_reserved(order: &[u16; 16384], n: usize, a: Acted, top: u16) -> Acted
-    requires { ⌜ (n ≤ 16384) × (length (now order) ≡ 16384) ⌝ }
+fn none_reserved(order: &Order, n: usize, a: Acted, top: u16) -> Acted
+    requires { ⌜ (n ≤ largestN) × (length (now order) ≡ largestN) ⌝ }
     ensures { λ r. ⌜ ((s : List ℕ) → Reads (Top top) (noneReserved (take n (now (order .entry)))) s a r tt) ⌝ }
 {
     let mut go = a;
@@ -36,8 +40,8 @@ fn none_reserved(order: &[u16; 16384], n: usize, a: Acted, top: u16) -> Acted
 }
 
 // The first n cells of the order are freed, the last first.
-fn release_all(cells: &mut [u64], log: &mut [u64], order: &[u16; 16384], n: usize, a: Acted)
-    requires { ⌜ (n ≤ 16384) × (length (now order) ≡ 16384) × Room (now log) (2 * n) ⌝ }
+fn release_all(cells: &mut [u64], log: &mut [u64], order: &Order, n: usize, a: Acted)
+    requires { ⌜ (n ≤ largestN) × (length (now order) ≡ largestN) × Room (now log) (2 * n) ⌝ }
     ensures { λ _. ⌜ Did Always (2 * n) (releaseAll (back n (now (order .entry))))
         (now (cells .entry)) (now (log .entry)) a (now (cells .exit)) (now (log .exit)) a tt ⌝ }
 {
@@ -49,30 +53,51 @@ fn release_all(cells: &mut [u64], log: &mut [u64], order: &[u16; 16384], n: usiz
     }
 }
 
-// The first n cells of the order are freed, and (0) is popped.
-fn erases(
+// The first n cells of the order are freed, unless one is reserved.
+fn erase_back(
     cells: &mut [u64],
     log: &mut [u64],
-    order: &[u16; 16384],
+    order: &Order,
     n: usize,
     a: Acted,
     top: u16,
 ) -> Acted
-    requires { ⌜ (n ≤ 16384) × (length (now order) ≡ 16384) × Room (now log) (2 * n + 3) ⌝ }
-    ensures { λ r. ⌜ Did (Top top) (2 * n + 3) (erases (back n (now (order .entry))))
+    requires { ⌜ (n ≤ largestN) × (length (now order) ≡ largestN) × Room (now log) (2 * n) ⌝ }
+    ensures { λ r. ⌜ Did (Top top) (2 * n) (eraseBack (back n (now (order .entry))))
         (now (cells .entry)) (now (log .entry)) a (now (cells .exit)) (now (log .exit)) r tt ⌝ }
 {
     let go = none_reserved(order, n, a, top);
     release_all(cells, log, order, n, go);
-    acts::pop(cells, log, go, top)
+    go
+}
+
+// The structure at c is erased.
+fn erase(
+    cells: &mut [u64],
+    log: &mut [u64],
+    order: &mut Order,
+    marks: &mut Marks,
+    a: Acted,
+    top: u16,
+    c: u16,
+) -> Acted
+    requires { ⌜ Clean (now cells) (now order) (now marks) × Room (now log) (2 * length (now cells)) ⌝ }
+    ensures { λ r. ⌜ Did (Top top) (2 * length (now (cells .entry))) (erase c)
+        (now (cells .entry)) (now (log .entry)) a (now (cells .exit)) (now (log .exit)) r tt ⌝ }
+    ensures { λ _. ⌜ Clean (now (cells .exit)) (now (order .exit)) (now (marks .exit)) ⌝ }
+{
+    let w = walk::walk(cells, order, marks, a, c);
+    let n = w.n;
+    let go = w.go;
+    erase_back(cells, log, order, n, go, top)
 }
 
 // A new cell for each of the first n of the order; the marks tell which.
 fn take_all(
     cells: &mut [u64],
     log: &mut [u64],
-    order: &[u16; 16384],
-    marks: &mut [u16; 16384],
+    order: &Order,
+    marks: &mut Marks,
     n: usize,
     a: Acted,
 ) -> Acted
@@ -93,8 +118,8 @@ fn take_all(
 }
 
 // A local name is given anew.
-fn new_symb(marks: &[u16; 16384], q: u8, symb: u16) -> u16
-    requires { ⌜ length (now marks) ≡ 16384 ⌝ }
+fn new_symb(marks: &Marks, q: u8, symb: u16) -> u16
+    requires { ⌜ length (now marks) ≡ largestN ⌝ }
     ensures { λ r. ⌜ r ≡ cond (eqb q 2) (newOf (now (marks .entry)) symb) symb ⌝ }
 {
     if q == 2 {
@@ -104,8 +129,8 @@ fn new_symb(marks: &[u16; 16384], q: u8, symb: u16) -> u16
 }
 
 // What the copy of a cell holds, by the new cells in the marks.
-fn copied(marks: &[u16; 16384], x: u64) -> u64
-    requires { ⌜ length (now marks) ≡ 16384 ⌝ }
+fn copied(marks: &Marks, x: u64) -> u64
+    requires { ⌜ length (now marks) ≡ largestN ⌝ }
     ensures { λ r. ⌜ Packs r (copied (newOf (now (marks .entry))) (unpackOf x)) ⌝ }
 {
     let c = cells::unpack(x);
@@ -117,7 +142,7 @@ fn copied(marks: &[u16; 16384], x: u64) -> u64
             walk::mark_at(marks, w.link),
         ),
         Cell::Free(l) => cells::of_free(l),
-        Cell::Integer(v) => cells::of_integer(v),
+        Cell::Term(v) => cells::of_term(v),
         Cell::Process => cells::of_process(),
     }
 }
@@ -126,8 +151,8 @@ fn copied(marks: &[u16; 16384], x: u64) -> u64
 fn copy_all(
     cells: &mut [u64],
     log: &mut [u64],
-    order: &[u16; 16384],
-    marks: &[u16; 16384],
+    order: &Order,
+    marks: &Marks,
     n: usize,
     a: Acted,
 )
@@ -148,8 +173,8 @@ fn copy_all(
 fn copy(
     cells: &mut [u64],
     log: &mut [u64],
-    order: &mut [u16; 16384],
-    marks: &mut [u16; 16384],
+    order: &mut Order,
+    marks: &mut Marks,
     a: Acted,
     c: u16,
 ) -> GotCell
@@ -171,8 +196,8 @@ fn copy(
 pub fn j71(
     cells: &mut [u64],
     log: &mut [u64],
-    order: &mut [u16; 16384],
-    marks: &mut [u16; 16384],
+    order: &mut Order,
+    marks: &mut Marks,
     a: Acted,
     top: u16,
 ) -> Acted
@@ -181,18 +206,19 @@ pub fn j71(
         (now (cells .entry)) (now (log .entry)) a (now (cells .exit)) (now (log .exit)) r tt ⌝ }
     ensures { λ _. ⌜ Clean (now (cells .exit)) (now (order .exit)) (now (marks .exit)) ⌝ }
 {
-    let w = acts::own(cells, 1);
+    let w = acts::own(cells, limits::H0);
     let l = walk::chain(cells, order, marks, a, (w / cells::SYMB % 65536) as u16);
     let n = l.n;
-    let go = l.go;
-    erases(cells, log, order, n, go, top)
+    let b = l.go;
+    let go = erase_back(cells, log, order, n, b, top);
+    acts::pop(cells, log, go, top)
 }
 
 pub fn j72(
     cells: &mut [u64],
     log: &mut [u64],
-    order: &mut [u16; 16384],
-    marks: &mut [u16; 16384],
+    order: &mut Order,
+    marks: &mut Marks,
     a: Acted,
     top: u16,
 ) -> Acted
@@ -201,11 +227,10 @@ pub fn j72(
         (now (cells .entry)) (now (log .entry)) a (now (cells .exit)) (now (log .exit)) r tt ⌝ }
     ensures { λ _. ⌜ Clean (now (cells .exit)) (now (order .exit)) (now (marks .exit)) ⌝ }
 {
-    let w = acts::own(cells, 1);
-    let l = walk::walk(cells, order, marks, a, (w / cells::SYMB % 65536) as u16);
-    let n = l.n;
-    let go = l.go;
-    erases(cells, log, order, n, go, top)
+    let w = acts::own(cells, limits::H0);
+    let c = (w / cells::SYMB % 65536) as u16;
+    let go = erase(cells, log, order, marks, a, top, c);
+    acts::pop(cells, log, go, top)
 }
 
 // Local if (0) was local, else internal.
@@ -221,8 +246,8 @@ fn copy_name(w: u64, c: u16) -> Symbol
 pub fn j74(
     cells: &mut [u64],
     log: &mut [u64],
-    order: &mut [u16; 16384],
-    marks: &mut [u16; 16384],
+    order: &mut Order,
+    marks: &mut Marks,
     a: Acted,
     top: u16,
 ) -> Acted
@@ -231,15 +256,9 @@ pub fn j74(
         (now (cells .entry)) (now (log .entry)) a (now (cells .exit)) (now (log .exit)) r tt ⌝ }
     ensures { λ _. ⌜ Clean (now (cells .exit)) (now (order .exit)) (now (marks .exit)) ⌝ }
 {
-    let w = acts::own(cells, 1);
-    let t = copy(
-        cells,
-        log,
-        order,
-        marks,
-        a,
-        (w / cells::SYMB % 65536) as u16,
-    );
+    let w = acts::own(cells, limits::H0);
+    let x = (w / cells::SYMB % 65536) as u16;
+    let t = copy(cells, log, order, marks, a, x);
     let c = t.c;
     let go = t.go;
     acts::gives1(cells, log, go, top, copy_name(w, c))

@@ -7,6 +7,7 @@ use mathlib.Core.Bool.{Bool, cond, _&&_}
 use mathlib.Core.List.{List}
 use lib.Dec.{ltb}
 use Rattle.paper.specs.declared.Symbol.{Symbol}
+use Rattle.paper.specs.Limits.{firstDeck}
 use Rattle.paper.specs.Cell.{State, endOfRegions, regional, internal}
 use Rattle.paper.specs.Act.{Act, done, _>>_, ret, refuse}
 use Rattle.cells.specs.Pack.{AllFormed}
@@ -33,7 +34,7 @@ abbrev pub Always : Rest → Type 0
 Always e = Unit {0}
 
 abbrev pub Top : ℕ → Rest → Type 0
-Top top e = endOfRegions (e .regions) 221 ≡ top
+Top top e = endOfRegions (e .regions) firstDeck ≡ top
 
 -- `reserved` and `nameOf` where the regions end at `top`
 abbrev pub reservedBy : ℕ → ℕ → Bool

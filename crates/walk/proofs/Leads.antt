@@ -50,31 +50,33 @@ module _ {A : Type 0} (M : Act A) (s : List ℕ) (v : A) (P : A → Type 0) (J :
       let t = stateOf none s in
       subst (λ (r : Res State Refusal A). After r (λ a t. J a t × P a)) (came a t (d .is none tt .is)) (f .at t (unpacked-length s)) .1
 
--- whatever the block `here` comes to, the block `start` comes to
-abbrev Carries : List ℕ → Act (List ℕ) → Act (List ℕ) → Type 0
-Carries s here start = (r : Acted) (v : List ℕ) → Reads Always here s Done r v → Reads Always start s Done r v
+-- whatever is shown of an answer and cells here is shown of them at the start
+abbrev Claim : Type 1
+Claim = Acted → List ℕ → Type 0
+
+abbrev Carries : Claim → Claim → Type 0
+Carries here start = (r : Acted) (v : List ℕ) → here r v → start r v
 
 -- from the start, with z₀ cells without marks, the loop has come to `here`, with z
-abbrev pub Leads : List ℕ → (ℕ → Act (List ℕ)) → ℕ → (ℕ → Act (List ℕ)) → ℕ → Type 0
-Leads s start z₀ here z = (f : ℕ) → z₀ < f → (g : ℕ) × (z < g) × Carries s (here g) (start f)
+abbrev pub Leads : (ℕ → Claim) → ℕ → (ℕ → Claim) → ℕ → Type 0
+Leads start z₀ here z = (f : ℕ) → z₀ < f → (g : ℕ) × (z < g) × Carries (here g) (start f)
 
-pub leads-none : {s : List ℕ} (start : ℕ → Act (List ℕ)) (z : ℕ) → Leads s start z start z
+pub leads-none : (start : ℕ → Claim) (z : ℕ) → Leads start z start z
 leads-none start z f h = (f, h, λ r v d. d)
 
-module _ {s : List ℕ} {start here : ℕ → Act (List ℕ)} {z₀ z : ℕ} (so : Leads s start z₀ here z) where
+module _ {start here : ℕ → Claim} {z₀ z : ℕ} (so : Leads start z₀ here z) where
   -- it ends here
-  pub leads-end : (r : Acted) (v : List ℕ) → ((k : ℕ) → z ≤ k → Reads Always (here (suc k)) s Done r v) → (f : ℕ) → z₀ < f
-      → Reads Always (start f) s Done r v
+  pub leads-end : (r : Acted) (v : List ℕ) → ((k : ℕ) → z ≤ k → here (suc k) r v) → (f : ℕ) → z₀ < f → start f r v
   leads-end r v e f h = go (so f h)
     where
-      go : ((g : ℕ) × (z < g) × Carries s (here g) (start f)) → Reads Always (start f) s Done r v
+      go : ((g : ℕ) × (z < g) × Carries (here g) (start f)) → start f r v
       go (zero, l, p) = absurd (omega arith)
       go (suc k, l, p) = p r v (e k (omega arith))
 
   -- it goes on to `there`
-  pub leads-more : (there : ℕ → Act (List ℕ)) (z′ : ℕ) → z′ < z → ((k : ℕ) → z ≤ k → Carries s (there k) (here (suc k))) → Leads s start z₀ there z′
+  pub leads-more : (there : ℕ → Claim) (z′ : ℕ) → z′ < z → ((k : ℕ) → z ≤ k → Carries (there k) (here (suc k))) → Leads start z₀ there z′
   leads-more there z′ l e f h = go (so f h)
     where
-      go : ((g : ℕ) × (z < g) × Carries s (here g) (start f)) → ((g : ℕ) × (z′ < g) × Carries s (there g) (start f))
+      go : ((g : ℕ) × (z < g) × Carries (here g) (start f)) → ((g : ℕ) × (z′ < g) × Carries (there g) (start f))
       go (zero, l′, p) = absurd (omega arith)
       go (suc k, l′, p) = (k, omega arith, λ r v d. p r v (e k (omega arith) r v d))

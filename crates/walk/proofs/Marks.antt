@@ -9,6 +9,7 @@ use lib.ListN.{length, getD, take, set, replicate, length-replicate, getD-replic
 use lib.Seq.{take-suc, take-suc-set, getD-set-same, getD-set-other, ext-getD}
 use lib.Dec.{eqb, ltb}
 use borrow.Author.Tests.{eqb-true, eqb-false, ltb-true, ltb-false, not-false}
+use Rattle.paper.specs.Limits.{largestN}
 use Rattle.paper.specs.Walk.{member}
 use Rattle.walk.specs.Marks.{back, blank, Marked, Only, unmet}
 
@@ -28,11 +29,11 @@ back-set order n c h =
     ap (λ (k : ℕ). back k (set order n c)) (add-one n) ∙ ap reverse (take-suc-set order n c h) ∙ reverse-append (take n order) (c ∷ [])
 
 blank-at : (c : ℕ) → getD blank c 0 ≡ 0
-blank-at c = go (ltb c 16384) refl
+blank-at c = go (ltb c largestN) refl
   where
-    go : (b : Bool) → ltb c 16384 ≡ b → getD blank c 0 ≡ 0
-    go true e = getD-replicate {A = ℕ} 16384 c 0 0 (ltb-true c 16384 e)
-    go false e = List·getD-eq-default blank 0 {n = c} (rw (length-replicate {A = ℕ} 16384 0) (ltb-false c 16384 e))
+    go : (b : Bool) → ltb c largestN ≡ b → getD blank c 0 ≡ 0
+    go true e = getD-replicate {A = ℕ} largestN c 0 0 (ltb-true c largestN e)
+    go false e = List·getD-eq-default blank 0 {n = c} (rw (length-replicate {A = ℕ} largestN 0) (ltb-false c largestN e))
 
 pub marked-none : Marked blank []
 unfolding member
@@ -62,9 +63,9 @@ only-less {marks} {seen} c h o = record { is = λ k e. go k (eqb k c) refl e }
     go k true q e = rw (eqb-true k c q) (getD-set-same marks c 0 0 h)
     go k false q e = getD-set-other marks c k 0 0 (eqb-false k c q) ∙ o .is k (rw (q, e))
 
-pub only-none : {marks : List ℕ} → length marks ≡ 16384 → Only marks [] → marks ≡ blank
+pub only-none : {marks : List ℕ} → length marks ≡ largestN → Only marks [] → marks ≡ blank
 unfolding member
-only-none {marks} h o = ext-getD 0 marks blank (h ∙ sym (length-replicate {A = ℕ} 16384 0)) (λ i l. o .is i refl ∙ sym (blank-at i))
+only-none {marks} h o = ext-getD 0 marks blank (h ∙ sym (length-replicate {A = ℕ} largestN 0)) (λ i l. o .is i refl ∙ sym (blank-at i))
 
 -- a cell that gets a mark is one fewer without
 pub unmet-mark : (k : ℕ) (m : List ℕ) (c : ℕ) → c < k → c < length m → getD m c 0 ≡ 0 → unmet k (set m c 1) + 1 ≡ unmet k m
@@ -80,5 +81,5 @@ unmet-new zero n h = refl
 unmet-new (suc k) zero h = absurd (omega arith)
 unmet-new (suc k) (suc n) h = omega (arith, unmet-new k n (omega arith))
 
-pub unmet-blank : (k : ℕ) → k ≤ 16384 → unmet k blank ≡ k
-unmet-blank k h = unmet-new k 16384 h
+pub unmet-blank : (k : ℕ) → k ≤ largestN → unmet k blank ≡ k
+unmet-blank k h = unmet-new k largestN h

@@ -8,10 +8,12 @@ use lib.Dec.{ltb}
 use borrow.Author.Tests.{ltb-true, ltb-false}
 use Rattle.paper.specs.declared.Refusal.the-variants.{BadWalk}
 use Rattle.paper.specs.Cell.{Word, Cell, free, isFree, cellAt, State}
-use Rattle.paper.specs.Act.{Act, _>>=_, _>>_, ret, refuseIf, touch, wordAt, named, notOwn, peek}
+use Rattle.paper.specs.Act.{Act, _>>=_, _>>_, ret, refuseIf, touch, asWord, wordAt, named, notOwn, peek}
+use Rattle.paper.specs.Limits.{deepest}
 use Rattle.paper.specs.Walk.{member, meet}
 use Rattle.paper.proofs.Safe.{Safe, Any, bind, seq, safe-ret, safe-ret-at, safe-refuseIf}
-use Rattle.paper.proofs.SoundStore.{never, or-false}
+use Rattle.paper.proofs.SoundStore.{never}
+use Rattle.walk.specs.Walks.{arrives}
 
 -- a cell that is met is one of n, and has not been met
 abbrev pub New : ℕ → ℕ → List ℕ → Type 0
@@ -45,15 +47,19 @@ module _ (n c : ℕ) where
       seq (safe-refuseIf _ _) λ _ _. bind s-peek λ x _. seq (safe-refuseIf _ _) λ _ f.
       safe-ret-at x (λ t i. (i .0, subst (λ k. c < k) (i .0) (in-use (t .cells) (subst (λ y. isFree y ≡ false) (sym (i .1)) f))))
 
-  pub s-meet : (b : Bool) (d : ℕ) (seen : List ℕ) → Safe Sized (λ _. New n c seen × (d ≤ 64)) (λ _. Sized) (meet b d c seen)
+  s-meet : Safe Sized (λ _. c < n) (λ _. Sized) (meet c)
   unfolding meet
-  s-meet b d seen =
-      bind s-touch λ x h. seq (safe-refuseIf _ _) λ _ _. seq (safe-refuseIf _ _) λ _ _. seq (safe-refuseIf _ _) λ _ f.
-      let (m, l) = or-false (member c seen) (ltb 64 d) f in
-      safe-ret x ((h, m), ltb-false 64 d l) (λ t i. i)
+  s-meet = bind s-touch λ x h. seq (safe-refuseIf _ _) λ _ _. safe-ret x h (λ t i. i)
+
+  pub s-arrives : (b : Bool) (d : ℕ) (seen : List ℕ)
+      → Safe Sized (λ _. New n c seen × (b ≡ false → d ≤ deepest)) (λ _. Sized) (arrives b d c seen)
+  unfolding arrives
+  s-arrives b d seen =
+      bind s-meet λ x h. seq (safe-refuseIf _ _) λ _ _. seq (safe-refuseIf _ _) λ _ m. seq (safe-refuseIf _ _) λ _ f.
+      safe-ret x ((h, m), λ e. ltb-false deepest d (rw e at f)) (λ t i. i)
 
   s-named : Safe Sized (λ _. c < n) (λ _. Sized) (named c)
-  unfolding wordAt named notOwn
+  unfolding wordAt asWord named notOwn
   s-named =
       bind (bind s-touch λ x h. seq (safe-refuseIf _ _) λ _ _. safe-ret {P = λ _. c < n} _ h (λ t i. i)) λ w h.
       seq (safe-refuseIf _ _) λ _ _. safe-ret w h (λ t i. i)

@@ -9,6 +9,7 @@ use native.Mathlib.Nat.{le-of-suc-le-suc, eq-or-lt-of-le}
 use lib.ListN.{length, set, length-set, length-replicate}
 use lib.Seq.{getD-set-same, getD-set-other}
 use Rattle.paper.specs.declared.Refusal.{Refusal}
+use Rattle.paper.specs.Limits.{largestN}
 use Rattle.paper.specs.Act.{Act}
 use Rattle.undo.specs.declared.Acted.{Acted}
 use Rattle.undo.specs.declared.Acted.the-variants.{Done, Refused}
@@ -35,7 +36,7 @@ module _ {s order marks : List ℕ} {n : ℕ} (h : Holds s order marks n) where
     pub fewer : unmet (length s) (set marks c 1) + 1 ≡ unmet (length s) marks
     fewer = unmet-mark (length s) marks c (new .0) (omega (arith, new .0, h .small, h .wide)) (not-met (h .marked) c (new .1))
 
-    pub fits : n < 16384
+    pub fits : n < largestN
     fits = omega (arith, fewer, h .room, h .small)
 
     pub seen-more : back (n + 1) (set order n c) ≡ c ∷ back n order
@@ -61,16 +62,16 @@ pub holds-as : {s order marks order′ marks′ : List ℕ} {n : ℕ} → order�
 holds-as {s} {order} {marks} {order′} {marks′} {n} p q h = subst (λ o. Holds s o marks′ n) (sym p) (subst (λ m. Holds s order m n) (sym q) h)
 
 -- with no cell met
-pub ordered-none : {s order : List ℕ} → length order ≡ 16384 → Ordered s order 0
+pub ordered-none : {s order : List ℕ} → length order ≡ largestN → Ordered s order 0
 ordered-none h = record { sized = h; inside = λ k l. absurd (omega arith); once = tt }
 
-pub blank-wide : {marks : List ℕ} → marks ≡ blank → length marks ≡ 16384
-blank-wide m = ap length m ∙ length-replicate {A = ℕ} 16384 0
+pub blank-wide : {marks : List ℕ} → marks ≡ blank → length marks ≡ largestN
+blank-wide m = ap length m ∙ length-replicate {A = ℕ} largestN 0
 
 pub only-blank : {marks : List ℕ} → marks ≡ blank → Only marks []
 only-blank m = subst (λ t. Only t []) (sym m) (marked-only marked-none)
 
-clears-none : {order marks : List ℕ} → length order ≡ 16384 → marks ≡ blank → Clears order marks 0
+clears-none : {order marks : List ℕ} → length order ≡ largestN → marks ≡ blank → Clears order marks 0
 clears-none h m = record {
   few = omega arith;
   sized = h;
@@ -94,14 +95,14 @@ module _ {s order marks : List ℕ} where
   clean-turns l = omega (arith, ap (unmet (length s)) (l .unmarked), unmet-blank (length s) (l .small))
 
 -- what a part of a walk leaves, once its answer is known
-module _ {block : ℕ → Act (List ℕ)} {s m order marks : List ℕ} {r : Walked} (l : Ends block s m order marks r) where
+module _ {claim : ℕ → Acted → List ℕ → Type 0} {s m order marks : List ℕ} {r : Walked} (l : Ends claim s m order marks r) where
   abbrev z : ℕ
   z = unmet (length s) m
 
   pub ends-done : r .go ≡ Done → Holds s order marks (r .n) × (unmet (length s) marks ≤ z)
   ends-done p = subst (λ a. Left s order marks z a (r .n)) p (l .left)
 
-  pub ends-refused : {e : Refusal} → r .go ≡ Refused e → (length order ≡ 16384) × (marks ≡ blank) × (r .n ≡ 0)
+  pub ends-refused : {e : Refusal} → r .go ≡ Refused e → (length order ≡ largestN) × (marks ≡ blank) × (r .n ≡ 0)
   ends-refused p = subst (λ a. Left s order marks z a (r .n)) p (l .left)
 
   left-ready : (a : Acted) → Left s order marks z a (r .n) → Clears order marks (r .n) × (r .n ≤ length s) × Ordered s order (r .n)
@@ -128,5 +129,5 @@ module _ (s order marks : List ℕ) (z n : ℕ) {r : Acted} where
   pub left-done : r ≡ Done → Holds s order marks n → unmet (length s) marks ≤ z → Left s order marks z r n
   left-done p h k = subst (λ r. Left s order marks z r n) (sym p) (h, k)
 
-  pub left-refused : {e : Refusal} → r ≡ Refused e → (length order ≡ 16384) × (marks ≡ blank) × (n ≡ 0) → Left s order marks z r n
+  pub left-refused : {e : Refusal} → r ≡ Refused e → (length order ≡ largestN) × (marks ≡ blank) × (n ≡ 0) → Left s order marks z r n
   left-refused p h = subst (λ r. Left s order marks z r n) (sym p) h

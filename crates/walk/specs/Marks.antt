@@ -5,6 +5,7 @@ use mathlib.Core.Bool.{false, cond, not}
 use mathlib.Core.List.{List, [], _∷_, reverse}
 use lib.ListN.{length, getD, take, replicate}
 use lib.Dec.{eqb}
+use Rattle.paper.specs.Limits.{largestN}
 use Rattle.paper.specs.Walk.{member}
 
 -- the first n of the order, last first: what the definitions call `seen`
@@ -12,7 +13,7 @@ abbrev pub back : ℕ → List ℕ → List ℕ
 back n order = reverse (take n order)
 
 abbrev pub blank : List ℕ
-blank = replicate 16384 0
+blank = replicate largestN 0
 
 -- no cell twice
 abbrev pub Once : List ℕ → Type 0
@@ -35,14 +36,14 @@ unmet (suc k) (x ∷ xs) = cond (eqb x 0) 1 0 + unmet k xs
 
 -- the first n of the order are cells of the numbers s, each once
 pub record Ordered (s order : List ℕ) (n : ℕ) : Type 0 where
-  pub sized : length order ≡ 16384
+  pub sized : length order ≡ largestN
   pub inside : (k : ℕ) → k < n → getD order k 0 < length s
   pub once : Once (back n order)
 
 -- the marks are at the first n of the order, and can be taken away there
 pub record Clears (order marks : List ℕ) (n : ℕ) : Type 0 where
-  pub few : n ≤ 16384
-  pub sized : length order ≡ 16384
-  pub wide : length marks ≡ 16384
-  pub inside : (k : ℕ) → k < n → getD order k 0 < 16384
+  pub few : n ≤ largestN
+  pub sized : length order ≡ largestN
+  pub wide : length marks ≡ largestN
+  pub inside : (k : ℕ) → k < n → getD order k 0 < largestN
   pub only : Only marks (back n order)

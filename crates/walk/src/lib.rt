@@ -1,19 +1,28 @@
 // The walk of a structure and J71's chain (paper/specs/Walk): the cells that they meet, in order. Marks, 0 at a cell not met, show a
 // repeat at once; they are taken away by going over the cells met.
 ghost use mathlib.Core.Path.{_≡_};
-ghost use mathlib.Core.Bool.{false, cond, _&&_, _||_, not};
+ghost use mathlib.Core.Bool.{cond, _&&_, not};
 ghost use mathlib.Core.List.{[]};
-ghost use Prim.Native.Nat.{_<_, _≤_};
+ghost use Prim.Native.Nat.{_+_, _<_, _≤_};
 ghost use lib.ListN.{length, getD, set};
 ghost use lib.Dec.{ltb, eqb};
+ghost use Rattle.paper.specs.Limits.{largestN, deepest};
 ghost use Rattle.paper.specs.Cell.{isWord};
-ghost use Rattle.paper.specs.Walk.{along, walkBack, chain, chainBack};
+ghost use Rattle.paper.specs.Walk.{enter, walkBack, chain, chainBack};
 ghost use Rattle.cells.specs.Layout.{unpackOf, qOf, symbOf};
 ghost use Rattle.walk.specs.Marks.{back, blank, Clears};
-ghost use Rattle.walk.specs.Walks.{Clean, Holds, Meets, Ends, sublist, Lists};
+ghost use Rattle.undo.specs.declared.Acted.the-variants.{Done};
+ghost use Rattle.undo.specs.Did.{Always, Reads};
+ghost use Rattle.walk.specs.Walks.{Clean, Holds, Arrives, Visits, Ends, sublist, Lists};
 use acts::Got;
 use paper::Refusal;
+use paper::limits;
 use undo::Acted;
+
+// The cells met, one after another; a mark for each cell, 0 where it has not been met.
+pub type Order = [u16; limits::LARGEST_N];
+
+pub type Marks = [u16; limits::LARGEST_N];
 
 // How many cells of the order were met, or why not.
 pub struct Walked {
@@ -22,19 +31,19 @@ pub struct Walked {
 }
 
 // What is marked at c: past the end nothing.
-pub fn mark_at(marks: &[u16; 16384], c: u16) -> u16
-    requires { ⌜ length (now marks) ≡ 16384 ⌝ }
+pub fn mark_at(marks: &Marks, c: u16) -> u16
+    requires { ⌜ length (now marks) ≡ largestN ⌝ }
     ensures { λ r. ⌜ r ≡ getD (now (marks .entry)) c 0 ⌝ }
 {
     let i = c as usize;
-    if i < 16384 {
+    if i < limits::LARGEST_N {
         return marks[i];
     }
     0
 }
 
 // The marks of the first n cells of the order are taken away.
-pub fn clear(order: &[u16; 16384], marks: &mut [u16; 16384], n: usize)
+pub fn clear(order: &Order, marks: &mut Marks, n: usize)
     requires { ⌜ Clears (now order) (now marks) n ⌝ }
     ensures { λ _. ⌜ now (marks .exit) ≡ blank ⌝ }
 {
@@ -46,8 +55,8 @@ pub fn clear(order: &[u16; 16384], marks: &mut [u16; 16384], n: usize)
 }
 
 // Cell c comes next in the order, and is marked.
-fn enlist(order: &mut [u16; 16384], marks: &mut [u16; 16384], n: usize, c: u16)
-    requires { ⌜ (n < 16384) × (c < 16384) ⌝ }
+fn enlist(order: &mut Order, marks: &mut Marks, n: usize, c: u16)
+    requires { ⌜ (n < largestN) × (c < largestN) ⌝ }
     ensures { λ _. ⌜ (now (order .exit) ≡ set (now (order .entry)) n c) × (now (marks .exit) ≡ set (now (marks .entry)) c 1) ⌝ }
 {
     order[n] = c;
@@ -61,24 +70,25 @@ fn not_word(linked: bool, x: u64) -> bool
     linked && !cells::is_word(x)
 }
 
-// Met before, or too deep.
-fn again_or_deep(marks: &[u16; 16384], depth: usize, c: u16) -> bool
-    requires { ⌜ length (now marks) ≡ 16384 ⌝ }
-    ensures { λ r. ⌜ r ≡ (not (eqb (getD (now (marks .entry)) c 0) 0) || ltb 64 depth) ⌝ }
+// A list at nesting 65: asked of its head, as a cell reached by a LINK is as deep as the head of its list.
+fn too_deep(linked: bool, depth: usize) -> bool
+    ensures { λ r. ⌜ r ≡ (not linked && ltb deepest depth) ⌝ }
 {
-    mark_at(marks, c) != 0 || 64 < depth
+    !linked & (limits::DEEPEST < depth)
 }
 
-fn meet(cells: &[u64], marks: &[u16; 16384], linked: bool, depth: usize, c: u16) -> Got
-    requires { ⌜ length (now marks) ≡ 16384 ⌝ }
-    ensures { λ r. ⌜ Meets (now (cells .entry)) (now (marks .entry)) linked depth c (r .go) (r .x) ⌝ }
+// The cell that comes next, reached by a LINK or as the head of a list at a depth.
+fn arrive(cells: &[u64], marks: &Marks, linked: bool, depth: usize, c: u16) -> Got
+    requires { ⌜ length (now marks) ≡ largestN ⌝ }
+    ensures { λ r. ⌜ Arrives (now (cells .entry)) (now (marks .entry)) linked depth c (r .go) (r .x) ⌝ }
 {
     let t = acts::touch(cells, Acted::Done, c);
     let x = t.x;
     let a = t.go;
-    let b = undo::refuse_if(a, acts::reserved(221, c), Refusal::BadWalk(c));
+    let b = undo::refuse_if(a, acts::reserved(limits::FIRST_DECK, c), Refusal::BadWalk(c));
     let d = undo::refuse_if(b, not_word(linked, x), Refusal::WrongKind(c));
-    let go = undo::refuse_if(d, again_or_deep(marks, depth, c), Refusal::BadWalk(c));
+    let e = undo::refuse_if(d, mark_at(marks, c) != 0, Refusal::BadWalk(c));
+    let go = undo::refuse_if(e, too_deep(linked, depth), Refusal::BadWalk(c));
     Got { go: go, x: x }
 }
 
@@ -95,21 +105,21 @@ fn list_named(w: u64) -> u16
 // From head along the LINKs; after each cell the list that it names.
 fn walk_links(
     cells: &[u64],
-    order: &mut [u16; 16384],
-    marks: &mut [u16; 16384],
+    order: &mut Order,
+    marks: &mut Marks,
     head: u16,
     depth: usize,
     from: usize,
 ) -> Walked
-    requires { ⌜ Holds (now cells) (now order) (now marks) from × (depth ≤ 65) ⌝ }
-    ensures { λ r. ⌜ Ends (λ f. along f depth false head (back from (now (order .entry))))
+    requires { ⌜ Holds (now cells) (now order) (now marks) from × (depth ≤ deepest + 1) ⌝ }
+    ensures { λ r. ⌜ Ends (λ f. Visits (enter f depth head) (now (cells .entry)) (back from (now (order .entry))))
         (now (cells .entry)) (now (marks .entry)) (now (order .exit)) (now (marks .exit)) r ⌝ }
 {
     let mut c = head;
     let mut n = from;
     let mut linked = false;
     loop {
-        let m = meet(cells, marks, linked, depth, c);
+        let m = arrive(cells, marks, linked, depth, c);
         let w = cells::word_in(m.x);
         let go = m.go;
         let Acted::Done = go else {
@@ -134,14 +144,14 @@ fn walk_links(
 // The list at head, one level deeper; 0 names none.
 fn enter_sublist(
     cells: &[u64],
-    order: &mut [u16; 16384],
-    marks: &mut [u16; 16384],
+    order: &mut Order,
+    marks: &mut Marks,
     head: u16,
     depth: usize,
     from: usize,
 ) -> Walked
-    requires { ⌜ Holds (now cells) (now order) (now marks) from × (depth ≤ 64) ⌝ }
-    ensures { λ r. ⌜ Ends (sublist depth head (back from (now (order .entry))))
+    requires { ⌜ Holds (now cells) (now order) (now marks) from × (depth ≤ deepest) ⌝ }
+    ensures { λ r. ⌜ Ends (λ f. Visits (sublist depth head f) (now (cells .entry)) (back from (now (order .entry))))
         (now (cells .entry)) (now (marks .entry)) (now (order .exit)) (now (marks .exit)) r ⌝ }
 {
     if head == 0 {
@@ -156,8 +166,8 @@ fn enter_sublist(
 // The walk of the structure at c.
 pub fn walk(
     cells: &[u64],
-    order: &mut [u16; 16384],
-    marks: &mut [u16; 16384],
+    order: &mut Order,
+    marks: &mut Marks,
     a: Acted,
     c: u16,
 ) -> Walked
@@ -175,12 +185,13 @@ pub fn walk(
 // Along the LINKs from head; 31 at a repeat.
 fn chain_links(
     cells: &[u64],
-    order: &mut [u16; 16384],
-    marks: &mut [u16; 16384],
+    order: &mut Order,
+    marks: &mut Marks,
     head: u16,
 ) -> Walked
     requires { ⌜ Holds (now cells) (now order) (now marks) 0 ⌝ }
-    ensures { λ r. ⌜ Ends (λ f. chain f head []) (now (cells .entry)) (now (marks .entry)) (now (order .exit)) (now (marks .exit)) r ⌝ }
+    ensures { λ r. ⌜ Ends (λ f. Reads Always (chain f head []) (now (cells .entry)) Done)
+        (now (cells .entry)) (now (marks .entry)) (now (order .exit)) (now (marks .exit)) r ⌝ }
 {
     let mut c = head;
     let mut met = 0;
@@ -202,11 +213,11 @@ fn chain_links(
     }
 }
 
-// J71's chain from c, or an integer alone.
+// J71's chain from c, or a data term alone.
 pub fn chain(
     cells: &[u64],
-    order: &mut [u16; 16384],
-    marks: &mut [u16; 16384],
+    order: &mut Order,
+    marks: &mut Marks,
     a: Acted,
     c: u16,
 ) -> Walked
@@ -218,7 +229,7 @@ pub fn chain(
     let Acted::Done = go else {
         return Walked { go: go, n: 0 };
     };
-    if cells::is_integer(t.x) {
+    if cells::is_term(t.x) {
         order[0] = c;
         return Walked { go: go, n: 1 };
     }

@@ -12,7 +12,7 @@ returns c =
     let c₂ = c₁ .before .before .before in
     let c₃ = c₂ .before in
     let c₄ = c₃ .before in
-    reads _ (any-on (c₄ .word-at .ensures))
+    reads _ (any-on (c₄ .word-to .ensures))
     (test (c₃ .has-below .ensures) (test (c₂ .not-own .ensures) (c₁ .pull-up .ensures)))
 
 pub restore-spec : {M : Type 1} → statement M

@@ -1,5 +1,5 @@
 use Rattle.undo.proofs.Leaves.{undone, from-is}
-use Rattle.undo.proofs.Lines.{reads, puts}
+use Rattle.undo.proofs.Lines.{reads, test, puts}
 use Rattle.paper.specs.Act.{store}
 use borrow.Author.Needs.{needs}
 use Rattle.acts.proofs.store.Statement.{statement}
@@ -12,20 +12,21 @@ returns c =
     let c₂ = c₁ .before .before .before in
     let c₃ = c₂ .before in
     let c₄ = c₃ .before .before in
-    reads _ (c₄ .named .ensures)
-    (from-is (c₃ .enum-told .given .1) (puts _ (c₂ .with-symbol .ensures) (c₁ .put .ensures)))
+    reads _ (c₄ .before .word-to .ensures)
+    (test (c₄ .not-own .ensures) (from-is (c₃ .enum-told .given .1) (puts _ (c₂ .with-symbol .ensures) (c₁ .put .ensures))))
 
 returns-2 : tie.Need-returns-2
 unfolding store
 returns-2 c =
     let c₁ = c .before in
     let c₂ = c₁ .before .before in
-    reads _ (c₂ .named .ensures) (undone (c₁ .go .given .1))
+    reads _ (c₂ .before .word-to .ensures) (test (c₂ .not-own .ensures) (undone (c₁ .go .given .1)))
 
 pub store-spec : {M : Type 1} → statement M
 store-spec =
     tie.close
     (tie.spec
+    (λ c κs. search needs)
     (λ c κs. search needs)
     (λ c. search needs)
     (λ c κs. search needs)

@@ -1,5 +1,6 @@
-use Rattle.book.proofs.DidLaws.{did-as, stop}
+use Rattle.book.proofs.DidLaws.{did-as}
 use Rattle.paper.specs.Deck.{cellFor}
+use Rattle.records.specs.Symbols.{nameOf}
 use borrow.Author.Needs.{needs}
 use Rattle.book.proofs.cell_for.Statement.{statement}
 use Rattle.book.proofs.cell_for.Tie as tie
@@ -8,24 +9,20 @@ returns : tie.Need-returns
 returns c =
     let c₁ = c .before .before in
     let c₂ = c₁ .before .before .before in
-    did-as cellFor (c₂ .f .given .1) ((c₁ .open-structure .ensures) _)
+    did-as (λ x. cellFor (nameOf x)) (c₂ .name .given .1) ((c₁ .open-structure .ensures) _)
 
 returns-2 : tie.Need-returns-2
 returns-2 c =
     let c₁ = c .before .before in
     let c₂ = c₁ .before .before .before in
-    did-as cellFor (c₂ .f2 .given .1) ((c₁ .define-local .ensures) _ _)
+    did-as (λ x. cellFor (nameOf x)) (c₂ .name2 .given .1) ((c₁ .define-local .ensures) _ _)
 
 returns-3 : tie.Need-returns-3
 unfolding cellFor
-returns-3 c = did-as cellFor (c .before .enum-told .given .1) (stop _ (c .refused .ensures))
-
-returns-4 : tie.Need-returns-4
-unfolding cellFor
-returns-4 c =
+returns-3 c =
     let c₁ = c .before .before in
     let c₂ = c₁ .before .before in
-    did-as cellFor (c₂ .enum-told2 .given .1) ((c₁ .take-cell .ensures) _ _ _)
+    did-as (λ x. cellFor (nameOf x)) (c₂ .enum-told .given .1) ((c₁ .take-cell .ensures) _ _ _)
 
 pub cell-for-spec : {M : Type 1} → statement M
 cell-for-spec =
@@ -38,11 +35,8 @@ cell-for-spec =
     (λ c. search needs)
     (λ c κs. search needs)
     (λ c. search needs)
-    (λ c κs. search needs)
-    (λ c. search needs)
     returns
     (λ c. search needs)
     returns-2
-    returns-3
     (λ c. search needs)
-    returns-4)
+    returns-3)

@@ -1,6 +1,6 @@
 use Rattle.book.proofs.DidLaws.{told-ret, told-sees, told-as, under}
-use Rattle.paper.specs.Deck.{known, cellOf}
-use lib.Dec.{eqb}
+use Rattle.paper.specs.Region.{cellOf}
+use Rattle.paper.specs.Deck.{known}
 use mathlib.Core.Path.{ap, sym, _∙_}
 use borrow.Author.Needs.{needs}
 use Rattle.book.proofs.known.Statement.{statement}

@@ -1,8 +1,13 @@
-use Rattle.book.proofs.DidLaws.{told-stop, told-sees, told-as, when, under}
-use Rattle.paper.specs.Deck.{nameFits, cellOf, localAt}
+use Rattle.book.proofs.DidLaws.{told-sees, told-as, or-tells, when, under}
+use Rattle.book.proofs.RegionLaws.{none-low}
+use Rattle.records.specs.Symbols.{nameOf}
+use Rattle.paper.specs.declared.Fault.the-variants.{BadName}
+use Rattle.paper.specs.Limits.{firstDeck}
+use Rattle.paper.specs.Region.{cellOf}
+use Rattle.paper.specs.Deck.{nameFits, localAt}
 use lib.ListN.{getD}
 use lib.Dec.{eqb, ltb}
-use mathlib.Core.Bool.{not, _||_, _&&_, false}
+use mathlib.Core.Bool.{not, _&&_, false, or-assoc}
 use mathlib.Core.Path.{ap, sym, _∙_}
 use borrow.Author.Needs.{needs}
 use Rattle.book.proofs.name_fits.Statement.{statement}
@@ -14,11 +19,15 @@ returns c =
     let c₁ = c .before in
     let c₂ = c₁ .before in
     let c₃ = c₂ .before .before in
-    told-as (nameFits _) (c₃ .f .given .1)
+    let c₄ = c₃ .before .before .before in
+    let w = not (eqb (c₄ .args .notes .waiting) 0) in
+    let x = c₂ .cell-of .result in
+    told-as (λ x. nameFits (c₄ .args .word) (nameOf x)) (c₃ .name .given .1)
     (told-sees _ _ (λ t h. h .waiting)
-    (told-sees _ _ (λ t h. ap (λ rs. cellOf rs (c₃ .f .given .0 .0) (c₃ .f .given .0 .1 .0)) (h .regions) ∙ sym (c₂ .cell-of .ensures))
-    (told-sees _ _ (λ t h. ap (λ m. getD m (c₂ .cell-of .result) false) (h .names) ∙ sym (c₁ .named .ensures))
-    (under (λ t h. tt) (c .refuse-if .ensures)))))
+    (or-tells _ _ _ (under (λ t h. tt) (when BadName (or-assoc w (ltb x firstDeck) (c₁ .named .result)) (c .refuse-if .ensures)))
+    (λ d. told-sees _ _ (λ t h. ap (λ rs. cellOf rs (c₃ .name .given .0 .0) (c₃ .name .given .0 .1 .0)) (h .regions) ∙ sym (c₂ .cell-of .ensures))
+    (or-tells _ _ _ (when BadName (none-low x (c₁ .named .result)) d)
+    (λ d. or-tells _ _ _ d (λ d. told-sees _ _ (λ t h. ap (λ m. getD m x false) (h .names) ∙ sym (c₁ .named .ensures)) d))))))
 
 returns-2 : tie.Need-returns-2
 unfolding nameFits
@@ -26,23 +35,21 @@ returns-2 c =
     let c₁ = c .before in
     let c₂ = c₁ .before .before .before in
     let c₃ = c₂ .before .before .before in
-    told-as (nameFits _) (c₂ .f2 .given .1)
+    let w = not (eqb (c₃ .args .notes .waiting) 0) && not (c₃ .args .word) in
+    told-as (λ x. nameFits (c₃ .args .word) (nameOf x)) (c₂ .name2 .given .1)
     (told-sees _ _ (λ t h. h .waiting)
-    (told-sees _ _ (λ t h. h .opened)
-    (told-sees _ _ (λ t h. ap (λ ls. localAt ls (c₂ .f2 .given .0 .0)) (h .locals))
-    (under (λ t h. tt)
-    (when _
-    (ap (λ x. (not (eqb (c₃ .args .notes .waiting) 0) && not (c₃ .args .word)) || not (c₃ .args .notes .opened) || x) (c₁ .has-word .ensures))
-    (c .refuse-if2 .ensures))))))
+    (or-tells _ _ _
+    (under (λ t h. tt) (when BadName (or-assoc w (not (c₃ .args .notes .opened)) (c₁ .has-word .result)) (c .refuse-if2 .ensures)))
+    (λ d. told-sees _ _ (λ t h. h .opened)
+    (or-tells _ _ _ d
+    (λ d. told-sees _ _ (λ t h. ap (λ ls. localAt ls (c₂ .name2 .given .0 .0)) (h .locals)) (when BadName (c₁ .has-word .ensures) d))))))
 
 returns-3 : tie.Need-returns-3
 unfolding nameFits
-returns-3 c = told-as (nameFits _) (c .before .enum-told .given .1) (told-stop _ (c .refused .ensures))
-
-returns-4 : tie.Need-returns-4
-unfolding nameFits
-returns-4 c =
-    told-as (nameFits _) (c .before .enum-told2 .given .1) (told-sees _ _ (λ t h. h .waiting) (under (λ t h. tt) (c .refuse-if3 .ensures)))
+returns-3 c =
+    let c₁ = c .before in
+    told-as (λ x. nameFits (c₁ .before .before .before .args .word) (nameOf x)) (c₁ .enum-told .given .1)
+    (told-sees _ _ (λ t h. h .waiting) (or-tells _ _ _ (under (λ t h. tt) (c .refuse-if3 .ensures)) (λ d. d)))
 
 pub name-fits-spec : {M : Type 1} → statement M
 name-fits-spec =
@@ -57,9 +64,6 @@ name-fits-spec =
     (λ c κs. search needs)
     (λ c. search needs)
     (λ c κs. search needs)
-    (λ c. search needs)
-    (λ c κs. search needs)
     returns
     returns-2
-    returns-3
-    returns-4)
+    returns-3)

@@ -9,7 +9,7 @@ returns-2 : tie.Need-returns-2
 returns-2 c = rw (c .before .before .c2 .given .1) (c .of-fields .ensures)
 
 returns-3 : tie.Need-returns-3
-returns-3 c = rw (c .before .before .c3 .given .1) (c .of-integer .ensures)
+returns-3 c = rw (c .before .before .c3 .given .1) (c .of-term .ensures)
 
 returns-4 : tie.Need-returns-4
 returns-4 c = rw (c .before .enum-told .given .1) (c .of-process .ensures)

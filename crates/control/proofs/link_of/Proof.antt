@@ -1,7 +1,7 @@
 use Rattle.undo.proofs.Readings.{reads-on, test-on, when, give-as}
 use Rattle.paper.specs.Cycle.{linkOf}
-use Rattle.paper.specs.Cell.{Word}
-use mathlib.Core.Path.{ap}
+use Rattle.cells.specs.Layout.{unpackOf}
+use Rattle.cells.proofs.Laws.{link-in}
 use borrow.Author.Needs.{needs}
 use Rattle.control.proofs.link_of.Statement.{statement}
 use Rattle.control.proofs.link_of.Tie as tie
@@ -14,8 +14,8 @@ returns c =
     let c₃ = c₂ .before in
     let c₄ = c₃ .before in
     reads-on _ (c₄ .touch .ensures)
-    (test-on (when _ (c₃ .is-integer .ensures) (c₂ .refuse-if .ensures))
-    (test-on (c₁ .not-own .ensures) (give-as (ap (λ (w : Word). w .link) (c .word-in .ensures)))))
+    (test-on (when _ (c₃ .is-term .ensures) (c₂ .refuse-if .ensures))
+    (test-on (c₁ .not-own .ensures) (give-as (link-in (unpackOf (c₄ .touch .result .x)) (c .word-in .result) (c .word-in .ensures)))))
 
 pub link-of-spec : {M : Type 1} → statement M
 link-of-spec =

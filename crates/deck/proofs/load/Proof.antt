@@ -1,4 +1,5 @@
 use Rattle.deck.proofs.OutcomeLaws.{in-range, marks-lent, loads-none, loads-fine, loads-refused}
+use Rattle.paper.specs.Limits.{largestN}
 use mathlib.Core.Path.{sym}
 use borrow.Author.Needs.{needs}
 use Rattle.deck.proofs.load.Statement.{statement}
@@ -20,7 +21,7 @@ slice-aggregate-load-records : tie.Need-slice-aggregate-load-records
 slice-aggregate-load-records c =
     let c₁ = c .before .before in
     let c₂ = c₁ .before in
-    marks-lent _ 16384 (in-range _ _ (c₂ .size-fits .ensures) (c₁ .if1 .left))
+    marks-lent _ largestN (in-range _ _ (c₂ .size-fits .ensures) (c₁ .if1 .left))
 
 load-records-requires : tie.Need-load-records-requires
 load-records-requires c κs =
@@ -28,7 +29,7 @@ load-records-requires c κs =
     let c₂ = c₁ .before in
     record {
       few = in-range _ _ (c₂ .size-fits .ensures) (c₁ .if1 .left);
-      marks = sym (marks-lent _ 16384 (in-range _ _ (c₂ .size-fits .ensures) (c₁ .if1 .left)));
+      marks = sym (marks-lent _ largestN (in-range _ _ (c₂ .size-fits .ensures) (c₁ .if1 .left)));
     }
 
 returns-2 : tie.Need-returns-2

@@ -16,7 +16,7 @@ returns c =
     let c₅ = c₄ .before .before .before .before in
     turned refl (c₅ .pre)
     (test (c₄ .name-fits .ensures) (record { regions = refl; opened = refl; locals = refl; names = refl; waiting = refl })
-    (bind _ (c₃ .cell-for .ensures) ((c₁ .fill .ensures) _ _ (c₂ .of-integer .ensures) _ _)))
+    (bind _ (c₃ .cell-for .ensures) ((c₁ .fill .ensures) _ _ (c₂ .of-term .ensures) _ _)))
 
 pub load-integer-spec : {M : Type 1} → statement M
 load-integer-spec =

@@ -3,7 +3,7 @@ use Rattle.deck.proofs.ReadLaws.{stops, not-written}
 use Rattle.deck.specs.Load.{oneParsed, oneRecord, AllLettered}
 use Rattle.book.proofs.DidLaws.{bind, give}
 use Rattle.records.specs.Symbols.{parsedOf}
-use Rattle.paper.specs.Deck.{given}
+use Rattle.paper.specs.Deck.{wellFormed}
 use lib.ListN.{length}
 use mathlib.Core.Option.{none}
 use mathlib.Core.Path.{subst, refl}
@@ -25,7 +25,7 @@ returns c =
     (turned-to (c .stopped .ensures) (stops _ (not-written _ none _ refl) (c₂ .pre .0)))
 
 returns-2 : tie.Need-returns-2
-unfolding oneParsed given
+unfolding oneParsed wellFormed
 returns-2 c =
     let c₁ = c .before .before .before .before in
     let c₂ = c₁ .before .before .before .before in

@@ -1,7 +1,7 @@
 use Rattle.deck.proofs.RecordLaws.{turned-as}
 use Rattle.deck.specs.Load.{ordinary, oneRecord, Lettered}
 use Rattle.book.proofs.DidLaws.{then, give}
-use Rattle.records.specs.Symbols.{recordOf}
+use Rattle.records.specs.Symbols.{nameOf, recordOf}
 use Rattle.paper.specs.Deck.{loadRecord, loadWord}
 use lib.ListN.{length}
 use mathlib.Core.Path.{subst, sym}
@@ -39,7 +39,7 @@ returns-3 c =
     let c₃ = c₂ .before .before in
     let c₄ = c₃ .before .before .before .before in
     turned-as (λ y. oneRecord (length (c₄ .args .cells .now)) (recordOf y)) (c₃ .x3 .given .1)
-    (turned-as (λ q. ordinary (loadWord (c₃ .x3 .given .0 .0) 0 q (c₃ .x3 .given .0 .1 .0) (c₃ .x3 .given .0 .1 .1 .0)))
+    (turned-as (λ q. ordinary (loadWord (nameOf (c₃ .x3 .given .0 .0)) 0 q (c₃ .x3 .given .0 .1 .0) (c₃ .x3 .given .0 .1 .1 .0)))
     (sym (c₂ .data-tag .ensures)) (c₁ .load-word2 .ensures))
 
 returns-4 : tie.Need-returns-4

@@ -1,12 +1,14 @@
 use Rattle.deck.proofs.TableLaws.{listed, made-more}
-use Rattle.deck.proofs.RecordLaws.{turned, turned-to, lays, none-holds}
+use Rattle.deck.proofs.RecordLaws.{turned, turned-to, lays, none-holds, or-stops}
 use Rattle.deck.specs.Load.{Made}
 use Rattle.book.proofs.DidLaws.{test, sees, skipped, judged-yes, judged-no}
 use Rattle.book.specs.Did.{Always}
 use Rattle.sound.specs.Table.{regionsOf}
 use Rattle.paper.specs.Deck.{loadRegion}
+use lib.Dec.{ltb}
 use lib.ListN.{length}
 use borrow.Author.Tests.{ltb-false}
+use mathlib.Core.Bool.{or-assoc}
 use mathlib.Core.Path.{_≡_, refl, ap, sym, subst, _∙_}
 use Prim.Native.Nat.{_+_}
 use native.Mathlib.Omega.{arith}
@@ -21,14 +23,18 @@ returns c =
     let c₁ = c₀ .before .before in
     let c₂ = c₁ .before in
     let c₃ = c₂ .before .before .before in
+    let full = ltb (length (c₃ .args .cells .now)) ((c₂ .top .result) + (c₃ .args .n)) in
     turned-to (c .stopped .ensures)
     (turned refl (c₃ .pre .0)
     (sees _ _ (sym (c₁ .letter-taken .ensures))
-    (sees _ _ refl (sees _ _ (sym (c₂ .top .ensures)) (test (judged-yes {K = Always} _ _ (c₀ .if1 .taken) refl) tt skipped)))))
+    (or-stops _ _ _ (sym (or-assoc (c₁ .letter-taken .result) (c₃ .args .notes .words) full) ∙ c₀ .if1 .taken)
+    (λ e. sees _ _ refl
+    (or-stops _ _ _ e (λ e. sees _ _ (sym (c₂ .top .ensures)) (test (judged-yes {K = Always} _ _ e refl) tt skipped)))))))
 
 -- the table's arrays have 23 places
 sized : (c : tie.After-slice-known4)
-    → let r = c .before .before .before .before .before .before .before .before .before .before .before .before .before .before .args .regions in (length (r .letters) ≡ 23) × (length (r .counts) ≡ 23)
+    → let r = c .before .before .before .before .before .before .before .before .before .before .before .before .before .before .args .regions in
+    (length (r .letters) ≡ 23) × (length (r .counts) ≡ 23)
 sized c =
     let g = c .before .before .before .before .before .before .before .before .before .before .before .before .before .before .good .1 .1 .0 in
     (search needs, search needs)
@@ -45,15 +51,17 @@ returns-2 c =
     let z = sized c in
     let no = none-holds (c₄ .letter-taken .result) (c₆ .args .notes .words) _ (c₃ .if1 .left) in
     let new = sym (c₄ .letter-taken .ensures) ∙ no .0 in
-    let fits = ltb-false (length (c₆ .args .cells .now)) ((c₅ .top .result) + (c₆ .args .n)) (no .1) in
+    let fits = ltb-false (length (c₆ .args .cells .now)) ((c₅ .top .result) + (c₆ .args .n)) (no .2) in
     let more = ap regionsOf (c₂ .with .ensures) ∙ listed (c₆ .args .regions) _ _ (z .0) (z .1) (c₆ .pre .0) (c₆ .pre .2) new in
     turned refl
     (subst Made (sym (c₂ .with .ensures))
     (made-more (c₆ .args .regions) _ _ (z .0) (z .1) (c₆ .pre .0) (c₆ .pre .2) new (omega (arith, c₅ .top .ensures, c₆ .pre .1 .few))))
     (sees _ _ (sym (c₄ .letter-taken .ensures))
+    (test (judged-no {K = Always} _ _ (no .0)) tt
     (sees _ _ refl
+    (test (judged-no {K = Always} _ _ (no .1)) tt
     (sees _ _ (sym (c₅ .top .ensures))
-    (test (judged-no {K = Always} _ _ (c₃ .if1 .left)) tt (lays _ _ _ more (c₁ .begin .ensures .0) (c₁ .begin .ensures .1))))))
+    (test (judged-no {K = Always} _ _ (no .2)) tt (lays _ _ _ more (c₁ .begin .ensures .0) (c₁ .begin .ensures .1))))))))
 
 pub load-region-spec : {M : Type 1} → statement M
 load-region-spec =

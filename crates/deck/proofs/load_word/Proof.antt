@@ -7,17 +7,11 @@ use borrow.Author.Needs.{needs}
 use Rattle.deck.proofs.load_word.Statement.{statement}
 use Rattle.deck.proofs.load_word.Tie as tie
 
-cell-named-requires : tie.Need-cell-named-requires
-cell-named-requires c κs =
-    let c′ = c .before .before .before .before .before .before .before .before .before .before .before .before .before .before in
-    let c₁ = c′ .before .before .before in
-    c₁ .pre .laid
-
 cell-named-requires-2 : tie.Need-cell-named-requires-2
 cell-named-requires-2 c κs =
-    let c′ = c .before .before .before .before .before .before .before .before .before .before .before .before .before .before in
-    let c₁ = c′ .before .before .before .before .before .before .before .before in
-    c₁ .pre .laid
+    let c₁ = c .before .before .before .before .before .before .before .before .before .before .before in
+    let c₂ = c₁ .before .before .before .before .before .before .before .before .before in
+    c₂ .pre .laid
 
 same-length : tie.Need-same-length
 same-length c =
@@ -39,18 +33,14 @@ returns c =
     let c₇ = c₆ .before .before .before in
     let c₈ = c₇ .before in
     let c₉ = c₈ .before in
-    let c₁₀ = c₉ .before in
-    let c₁₁ = c₁₀ .before in
-    let c₁₂ = c₁₁ .before .before .before .before in
-    turned refl (c₁₂ .pre)
-    (test (c₁₁ .name-fits .ensures) (record { regions = refl; opened = refl; locals = refl; names = refl; waiting = refl })
-    (test (c₁₀ .known .ensures) refl
-    (test (c₉ .has-structure .ensures) refl
-    (test (c₈ .known2 .ensures) refl
-    (test (c₇ .has-structure2 .ensures) refl
+    let c₁₀ = c₉ .before .before .before .before in
+    turned refl (c₁₀ .pre)
+    (test (c₉ .name-fits .ensures) (record { regions = refl; opened = refl; locals = refl; names = refl; waiting = refl })
+    (test (c₈ .known .ensures) refl
+    (test (c₇ .known2 .ensures) refl
     (bind _ (c₆ .cell-for .ensures)
     (bind _ ((c₅ .cell-named .ensures) _)
-    (bind _ ((c₄ .cell-named2 .ensures) _) (alike (ap (fill _ _) (c₂ .is-blank .ensures)) ((c₁ .fill .ensures) _ _ (c₃ .of-fields .ensures) _ _))))))))))
+    (bind _ ((c₄ .cell-named2 .ensures) _) (alike (ap (fill _ _) (c₂ .is-blank .ensures)) ((c₁ .fill .ensures) _ _ (c₃ .of-fields .ensures) _ _))))))))
 
 pub load-word-spec : {M : Type 1} → statement M
 load-word-spec =
@@ -61,8 +51,6 @@ load-word-spec =
     (λ c κs. search needs)
     (λ c κs. search needs)
     (λ c κs. search needs)
-    (λ c κs. search needs)
-    cell-named-requires
     cell-named-requires-2
     (λ c κs. search needs)
     (λ c κs. search needs)

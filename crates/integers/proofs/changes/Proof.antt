@@ -1,6 +1,7 @@
 use Rattle.undo.proofs.Readings.{any-sees, any-on}
 use Rattle.undo.proofs.Lines.{sees, reads, then, any, alike}
-use Rattle.paper.specs.Process.{putInteger, changes}
+use Rattle.paper.specs.Cell.{integer}
+use Rattle.paper.specs.Process.{putTerm, changes}
 use Rattle.paper.specs.Act.{gives}
 use mathlib.Core.Path.{ap}
 use borrow.Author.Needs.{needs}
@@ -17,8 +18,8 @@ returns c =
     let c₅ = c₄ .before .before .before in
     let c₆ = c₅ .before .before in
     sees _ (any-sees (c₆ .own .ensures))
-    (reads _ (any-on (c₅ .integer-at .ensures))
-    (then (any (alike (ap (putInteger _) (c₄ .changed .ensures)) (c₃ .put-integer .ensures)))
+    (reads _ (any-on (c₅ .term-to .ensures))
+    (then (any (alike (ap (putTerm _) (ap integer (c₄ .changed .ensures))) (c₃ .put-integer .ensures)))
     (alike (ap (gives 1) (c₂ .symbol .ensures)) (c₁ .gives1 .ensures))))
 
 pub changes-spec : {M : Type 1} → statement M

@@ -1,7 +1,8 @@
 use Rattle.integers.proofs.Put.{meets}
 use Rattle.undo.proofs.Readings.{any-sees, any-on}
 use Rattle.undo.proofs.Lines.{sees, reads, then, any, alike}
-use Rattle.paper.specs.Process.{putInteger, combines}
+use Rattle.paper.specs.Cell.{integer}
+use Rattle.paper.specs.Process.{putTerm, combines}
 use Rattle.paper.specs.Act.{gives}
 use native.Mathlib.Omega.{arith}
 use mathlib.Core.Path.{ap}
@@ -38,10 +39,10 @@ returns c =
     sees _ (any-sees (c₁₀ .own .ensures))
     (reads _ (any-on (c₉ .below .ensures))
     (reads _ (any-on (c₈ .below2 .ensures))
-    (meets (any-on (c₇ .integer-at .ensures))
-    (reads _ (any-on (c₆ .integer-at2 .ensures))
-    (reads _ (any-on (c₅ .integer-at3 .ensures))
-    (then (any (alike (ap (putInteger _) (c₄ .combined .ensures)) (c₃ .put-integer .ensures)))
+    (meets (any-on (c₇ .term-to .ensures))
+    (reads _ (any-on (c₆ .integer-at .ensures))
+    (reads _ (any-on (c₅ .integer-at2 .ensures))
+    (then (any (alike (ap (putTerm _) (ap integer (c₄ .combined .ensures))) (c₃ .put-integer .ensures)))
     (alike (ap (gives 3) (c₂ .symbol .ensures)) (c₁ .gives3 .ensures))))))))
 
 pub combines-spec : {M : Type 1} → statement M
@@ -50,6 +51,7 @@ combines-spec =
     (tie.spec
     (λ c κs. search needs)
     (λ c κs. search needs)
+    (λ c. search needs)
     (λ c κs. search needs)
     (λ c. search needs)
     (λ c κs. search needs)

@@ -17,8 +17,8 @@ returns c =
     let c₅ = c₄ .before in
     let c₆ = c₅ .before .before in
     sees _ (any-sees (c₆ .own .ensures))
-    (reads _ (any-on (c₅ .integer-at .ensures))
-    (bind _ (any (alike (ap takeAs (c₄ .of-integer .ensures .unpacks)) (c₃ .take-as .ensures)))
+    (reads _ (any-on (c₅ .term-at .ensures))
+    (bind _ (any (alike (ap takeAs (c₄ .of-term .ensures .unpacks)) (c₃ .take-as .ensures)))
     (alike (ap (gives 1) (c₂ .copy-name .ensures)) (c₁ .gives1 .ensures))))
 
 pub j120-spec : {M : Type 1} → statement M

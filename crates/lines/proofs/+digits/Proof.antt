@@ -4,6 +4,7 @@ use native.Mathlib.Omega.{arith}
 use borrow.Author.Needs.{needs}
 use borrow.Fn.Kinds.{In}
 use borrow.Fn.PlainCycle.{Measures, is, falls, and}
+use Rattle.paper.specs.Limits.{longestLine}
 use Rattle.lines.proofs.digits.Reads as digits
 use Rattle.lines.proofs.digits.Kinds as digits-kinds
 use Rattle.lines.proofs.+digits.Lts-digits as lts
@@ -28,7 +29,7 @@ module _ (t : ℕ) where
   returns-2 c = writes-as (digits-one _ _ (c .before .if1 .left) (c .if2 .taken)) (writes-one _ _ _ (omega (arith, c .before .before .pre .1 .0)))
 
   -- the byte after the first digits is within the line
-  within : (c : lts.After-digits (claims t) (at t) digits.Post) → c .digits .result < 32
+  within : (c : lts.After-digits (claims t) (at t) digits.Post) → c .digits .result < longestLine
   within c =
       let a = c .before .before .before .before .args in
       omega (arith, c .digits .ensures .end, digits-length (a .k - 1) (a .n / 10))

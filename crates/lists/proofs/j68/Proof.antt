@@ -16,7 +16,7 @@ returns c =
     let c₄ = c₃ .before in
     let c₅ = c₄ .before .before in
     let c₆ = c₅ .before .before in
-    sees _ (any-sees (c₆ .own .ensures)) (reads _ (any-on (c₅ .word-at .ensures)) (test (c₄ .refuse-if .ensures) (test (c₃ .not-own .ensures)
+    sees _ (any-sees (c₆ .own .ensures)) (reads _ (any-on (c₅ .word-to .ensures)) (test (c₄ .refuse-if .ensures) (test (c₃ .not-own .ensures)
     (yes _ (eq-eqb _ _ (c₂ .if1 .taken)) (most 7 (omega arith) (c₁ .delete-last .ensures))))))
 
 returns-2 : tie.Need-returns-2
@@ -28,7 +28,7 @@ returns-2 c =
     let c₄ = c₃ .before in
     let c₅ = c₄ .before .before in
     let c₆ = c₅ .before .before in
-    sees _ (any-sees (c₆ .own .ensures)) (reads _ (any-on (c₅ .word-at .ensures)) (test (c₄ .refuse-if .ensures) (test (c₃ .not-own .ensures)
+    sees _ (any-sees (c₆ .own .ensures)) (reads _ (any-on (c₅ .word-to .ensures)) (test (c₄ .refuse-if .ensures) (test (c₃ .not-own .ensures)
     (else _ (ne-eqb _ _ (c₂ .if1 .left)) (c₁ .delete-next .ensures)))))
 
 pub j68-spec : {M : Type 1} → statement M

@@ -1,9 +1,10 @@
-use Prim.Native.Nat.{ℕ}
+use Prim.Native.Nat.{ℕ, suc}
 use mathlib.Core.Path.{refl, _∙_, subst}
 use native.Mathlib.Omega.{arith}
 use lib.ListN.{length, length-replicate}
+use Rattle.paper.specs.Limits.{largestN}
 use Rattle.sound.proofs.SoundLaws.{size-range}
-use Rattle.plain.specs.Numbers.{Asks, Passed, actionOf}
+use Rattle.plain.specs.Numbers.{logLast, Asks, Passed, actionOf}
 use Rattle.plain.proofs.Settled.{plain-unfit, plain-settled, empty}
 use borrow.Author.Needs.{needs}
 use Rattle.plain.proofs.plainly.Statement.{statement}
@@ -31,8 +32,8 @@ act-requires : tie.Need-act-requires
 act-requires c κs =
     let p = passed (c .before .before .before .before .before) in
     let n = size-range _ (p .size) in (
-      record { small = n .1; sized = length-replicate {A = ℕ} 16384 0; unmarked = refl },
-      record { fits = omega (arith, n .1, empty 98319, length-replicate {A = ℕ} 98320 0) },
+      record { small = n .1; sized = length-replicate {A = ℕ} largestN 0; unmarked = refl },
+      record { fits = omega (arith, n .1, empty logLast, length-replicate {A = ℕ} (suc logLast) 0) },
     )
 
 settle-requires : tie.Need-settle-requires
@@ -40,13 +41,13 @@ settle-requires c κs =
     let t = c .before .before .before .before .before .act in
     let c₁ = c .before .before .before .before .before .before .before .before .before .before .before in
     let n = size-range (length (start c₁ .args .cells .now)) (passed c₁ .size) in
-    record { fits = omega (arith, t .ensures .count, t .kept .1 .0, n .1, empty 98319, length-replicate {A = ℕ} 98320 0) }
+    record { fits = omega (arith, t .ensures .count, t .kept .1 .0, n .1, empty logLast, length-replicate {A = ℕ} (suc logLast) 0) }
 
 returns-2 : tie.Need-returns-2
 returns-2 c =
     let c₁ = c .before .before .before .before .before .before .before .before in
     let p = passed (c₁ .before .before .before .before .before .before) in
-    c .before .before .settle .ensures ∙ plain-settled _ _ _ p _ (empty 98319) (c₁ .act .ensures)
+    c .before .before .settle .ensures ∙ plain-settled _ _ _ p _ (empty logLast) (c₁ .act .ensures)
 
 pub plainly-spec : {M : Type 1} → statement M
 plainly-spec =

@@ -2,6 +2,7 @@ use Prim.Native.Nat.{ℕ, _≤_}
 use mathlib.Core.Path.{refl, _∙_, subst}
 use native.Mathlib.Omega.{arith}
 use lib.ListN.{length, length-replicate}
+use Rattle.paper.specs.Limits.{largestN}
 use Rattle.plain.specs.Numbers.{Asks, Passed}
 use Rattle.sound.proofs.SoundLaws.{size-range}
 use Rattle.plain.proofs.Walked.{walk-unfit, walk-done, walk-refused}
@@ -29,9 +30,9 @@ passed c =
 
 walk-requires : tie.Need-walk-requires
 walk-requires c κs =
-    record { small = size-range _ (passed (c .before .before) .size) .1; sized = length-replicate {A = ℕ} 16384 0; unmarked = refl }
+    record { small = size-range _ (passed (c .before .before) .size) .1; sized = length-replicate {A = ℕ} largestN 0; unmarked = refl }
 
-few : (c : tie.After-walk) → c .walk .result .n ≤ 16384
+few : (c : tie.After-walk) → c .walk .result .n ≤ largestN
 few c =
     let c₁ = c .before .before .before in
     omega (arith, c .walk .ensures .few, size-range (length (start c₁ .args .cells .now)) (passed c₁ .size) .1)

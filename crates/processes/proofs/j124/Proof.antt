@@ -17,9 +17,11 @@ returns c =
     let c₅ = c₄ .before .before .before in
     let c₆ = c₅ .before in
     let c₇ = c₆ .before in
-    let c₈ = c₇ .before .before in
-    sees _ (any-sees (c₈ .own .ensures)) (reads _ (any-on (c₇ .touch .ensures)) (test (when _ (c₆ .not-cleared .ensures) (c₅ .refuse-if .ensures))
-    (then (any (puts _ (c₄ .of-integer .ensures) (c₃ .put .ensures))) (alike (ap (gives 1) (c₂ .symbol .ensures)) (c₁ .gives1 .ensures)))))
+    let c₈ = c₇ .before in
+    let c₉ = c₈ .before in
+    sees _ (any-sees (c₉ .before .before .own .ensures)) (reads _ (any-on (c₉ .target .ensures))
+    (test (when _ (c₈ .is-process .ensures) (c₇ .refuse-if .ensures)) (test (when _ (c₆ .reserved .ensures) (c₅ .refuse-if2 .ensures))
+    (then (any (puts _ (c₄ .of-term .ensures) (c₃ .put .ensures))) (alike (ap (gives 1) (c₂ .symbol .ensures)) (c₁ .gives1 .ensures))))))
 
 pub j124-spec : {M : Type 1} → statement M
 j124-spec =
@@ -27,6 +29,8 @@ j124-spec =
     (tie.spec
     (λ c κs. search needs)
     (λ c. search needs)
+    (λ c κs. search needs)
+    (λ c κs. search needs)
     (λ c κs. search needs)
     (λ c κs. search needs)
     (λ c κs. search needs)

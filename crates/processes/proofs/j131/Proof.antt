@@ -15,7 +15,7 @@ returns c =
     let c₄ = c₃ .before in
     let c₅ = c₄ .before .before in
     sees _ (any-sees (c₅ .own .ensures))
-    (reads _ (any-on (c₄ .touch .ensures)) (test (c₃ .not-own .ensures) (alike (ap (tests 1) (c₂ .is-integer .ensures)) (c₁ .tests1 .ensures))))
+    (reads _ (any-on (c₄ .touch .ensures)) (test (c₃ .not-own .ensures) (alike (ap (tests 1) (c₂ .is-term .ensures)) (c₁ .tests1 .ensures))))
 
 pub j131-spec : {M : Type 1} → statement M
 j131-spec =

@@ -96,32 +96,21 @@ returns-12 c =
 returns-13 : tie.Need-returns-13
 unfolding noneFor listed member
 returns-13 c =
-    unlisted 110 129 13 (110 ∷ 111 ∷ 114 ∷ 115 ∷ 116 ∷ 117 ∷ 118 ∷ 119 ∷ 120 ∷ 123 ∷ 124 ∷ 125 ∷ []) refl (omega arith) (omega arith) (let r = c .before .match .rest in (
-      r .0 .0 .0 .0 .0 .0 .0 .0 .0 .0 .0 .1,
-      (
-        r .0 .0 .0 .0 .0 .0 .0 .0 .0 .0 .1,
-        (
-          r .0 .0 .0 .0 .0 .0 .0 .0 .0 .1,
-          (
-            r .0 .0 .0 .0 .0 .0 .0 .0 .1,
-            (
-              r .0 .0 .0 .0 .0 .0 .0 .1,
-              (
-                r .0 .0 .0 .0 .0 .0 .1,
-                (
-                  r .0 .0 .0 .0 .0 .1,
-                  (
-                    r .0 .0 .0 .0 .1,
-                    (r .0 .0 .0 .1, (r .0 .0 .1, (r .0 .1, (r .1, tt)))),
-                  ),
-                ),
-              ),
-            ),
-          ),
-        ),
-      ),
-    ))
-    (c .refuse-if .ensures)
+    let r = c .before .match .rest in
+    let r₁ = r .0 in
+    let r₂ = r₁ .0 in
+    let r₃ = r₂ .0 in
+    let r₄ = r₃ .0 in
+    let r₅ = r₄ .0 in
+    let r₆ = r₅ .0 in
+    let r₇ = r₆ .0 in
+    let r₈ = r₇ .0 in
+    let r₉ = r₈ .0 in
+    let r₁₀ = r₉ .0 in
+    let r₁₁ = r₁₀ .0 in
+    unlisted 110 129 13 (110 ∷ 111 ∷ 114 ∷ 115 ∷ 116 ∷ 117 ∷ 118 ∷ 119 ∷ 120 ∷ 123 ∷ 124 ∷ 125 ∷ []) refl (omega arith) (omega arith)
+    (r₁₁ .1, (r₁₀ .1, (r₉ .1, (r₈ .1, (r₇ .1, (r₆ .1, (r₅ .1, (r₄ .1, (r₃ .1, (r₂ .1, (r₁ .1, (r .1, tt))))))))))))
+    (c .not-listed .ensures)
 
 pub on-integers-spec : {M : Type 1} → statement M
 on-integers-spec =

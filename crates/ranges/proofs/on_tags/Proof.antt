@@ -54,8 +54,9 @@ returns-6 c =
 returns-7 : tie.Need-returns-7
 unfolding noneFor listed member
 returns-7 c =
-    unlisted 130 151 7 (130 ∷ 131 ∷ 132 ∷ 134 ∷ 136 ∷ 138 ∷ []) refl (omega arith) (omega arith) (omega arith, (omega arith, (omega arith, (omega arith, (omega arith, (omega arith, tt))))))
-    (c .refuse-if .ensures)
+    unlisted 130 151 7 (130 ∷ 131 ∷ 132 ∷ 134 ∷ 136 ∷ 138 ∷ []) refl (omega arith) (omega arith)
+    (omega arith, (omega arith, (omega arith, (omega arith, (omega arith, (omega arith, tt))))))
+    (c .not-listed .ensures)
 
 pub on-tags-spec : {M : Type 1} → statement M
 on-tags-spec =

@@ -1,4 +1,4 @@
-use Rattle.records.proofs.Laws.{record-1, record-2, record-3, record-4, record-5}
+use Rattle.records.proofs.Laws.{record-1, record-2, record-3, record-4, record-5, kind-none}
 use mathlib.Core.Path.{_∙_, sym}
 use borrow.Author.Needs.{needs}
 use Rattle.records.proofs.parse.Statement.{statement}
@@ -18,33 +18,40 @@ returns-2 c =
     let c₁ = c .before in
     let c₂ = c₁ .before in
     let c₃ = c₂ .before in
-    let c₄ = c₃ .before .before .before .before .before in
-    simp (c₂ .byte-at2 .ensures, c₁ .byte-at3 .ensures) at (c .routine .ensures)
-    ∙ sym (record-2 _ _ _ (c₄ .pre .0) (c₄ .pre .1) (c₃ .match .keys2))
+    let c₄ = c₃ .before in
+    let c₅ = c₄ .before .before .before .before .before in
+    simp (c₃ .name-as .ensures, c₂ .byte-at2 .ensures, c₁ .byte-at3 .ensures) at (c .routine .ensures)
+    ∙ sym (record-2 _ _ _ (c₅ .pre .0) (c₅ .pre .1) (c₄ .match .keys2))
 
 returns-3 : tie.Need-returns-3
 returns-3 c =
     let c₁ = c .before in
-    let c₂ = c₁ .before .before .before .before .before in
-    c .datum .ensures ∙ sym (record-3 _ _ _ (c₂ .pre .0) (c₂ .pre .1) (c₁ .match .keys3))
+    let c₂ = c₁ .before in
+    let c₃ = c₂ .before .before .before .before .before in
+    simp (c₁ .name-as2 .ensures) at (c .datum .ensures) ∙ sym (record-3 _ _ _ (c₃ .pre .0) (c₃ .pre .1) (c₂ .match .keys3))
 
 returns-4 : tie.Need-returns-4
 returns-4 c =
     let c₁ = c .before in
     let c₂ = c₁ .before in
     let c₃ = c₂ .before in
-    let c₄ = c₃ .before .before .before .before .before in
-    simp (c₂ .pair-at2 .ensures, c₁ .pair-at3 .ensures) at (c .number .ensures)
-    ∙ sym (record-4 _ _ _ (c₄ .pre .0) (c₄ .pre .1) (c₃ .match .keys4))
+    let c₄ = c₃ .before in
+    let c₅ = c₄ .before .before .before .before .before in
+    simp (c₃ .name-as3 .ensures, c₂ .pair-at2 .ensures, c₁ .pair-at3 .ensures) at (c .number .ensures)
+    ∙ sym (record-4 _ _ _ (c₅ .pre .0) (c₅ .pre .1) (c₄ .match .keys4))
 
 returns-5 : tie.Need-returns-5
 returns-5 c =
     let c₁ = c .before in
     let c₂ = c₁ .before .before .before .before .before in
-    c .start .ensures
-    ∙ sym
-    (record-5 _ _ _ (c₂ .pre .0) (c₂ .pre .1) (c₁ .match .rest .0 .0 .0 .1) (c₁ .match .rest .0 .0 .1) (c₁ .match .rest .0 .1)
-    (c₁ .match .rest .1))
+    c .start .ensures ∙ sym (record-5 _ _ _ (c₂ .pre .0) (c₂ .pre .1) (c₁ .match .keys5))
+
+returns-6 : tie.Need-returns-6
+returns-6 c =
+    let c₁ = c .before .before .before .before .before in
+    sym
+    (kind-none _ _ (c₁ .pre .0) (c .match .rest .0 .0 .0 .0 .1) (c .match .rest .0 .0 .0 .1) (c .match .rest .0 .0 .1) (c .match .rest .0 .1)
+    (c .match .rest .1))
 
 pub parse-spec : {M : Type 1} → statement M
 parse-spec =
@@ -64,8 +71,12 @@ parse-spec =
     (λ c κs. search needs)
     (λ c κs. search needs)
     (λ c κs. search needs)
+    (λ c κs. search needs)
+    (λ c κs. search needs)
+    (λ c κs. search needs)
     returns
     returns-2
     returns-3
     returns-4
-    returns-5)
+    returns-5
+    returns-6)

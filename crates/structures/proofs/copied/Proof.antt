@@ -37,7 +37,7 @@ returns-3 : tie.Need-returns-3
 unfolding copied
 returns-3 c =
     let u = c .before .before .before .before in
-    copy-as (u .before .args .marks .now) (c .before .before .c3 .given .1) (u .unpack .ensures) (c .of-integer .ensures)
+    copy-as (u .before .args .marks .now) (c .before .before .c3 .given .1) (u .unpack .ensures) (c .of-term .ensures)
 
 returns-4 : tie.Need-returns-4
 unfolding copied

@@ -1,7 +1,8 @@
 use native.Mathlib.Omega.{arith}
 use Rattle.paper.specs.Process.{J71}
 use Rattle.undo.proofs.Readings.{any-on, any-sees}
-use Rattle.undo.proofs.Lines.{sees, reads, most}
+use Rattle.undo.proofs.Lines.{then, sees, reads, most}
+use Rattle.structures.proofs.Whole.{lists-clean}
 use borrow.Author.Needs.{needs}
 use Rattle.structures.proofs.j71.Statement.{statement}
 use Rattle.structures.proofs.j71.Tie as tie
@@ -9,16 +10,14 @@ use Rattle.structures.proofs.j71.Tie as tie
 returns : tie.Need-returns
 unfolding J71
 returns c =
-    let c₁ = c .before .before .before .before in
+    let p = c .before .before .before .before .pop in
+    let c₁ = c .before .before .before .before .before .before .before .before .before .before .before in
     let c₂ = c₁ .before .before .before .before in
     let c₃ = c₂ .before .before .before .before in
     let w = c₂ .chain .ensures in (
-      sees _ (any-sees (c₃ .own .ensures)) (reads _ (any-on (w .says)) (most _ (omega (arith, w .few)) (c₁ .erases .ensures))),
-      record {
-        small = omega (arith, c₁ .erases .kept .0, c₃ .before .before .before .before .pre .0 .small);
-        sized = w .ordered .sized;
-        unmarked = w .unmarked;
-      },
+      sees _ (any-sees (c₃ .own .ensures))
+          (reads _ (any-on (w .says)) (most _ (omega (arith, w .few)) (then (c₁ .erase-back .ensures) (p .ensures)))),
+      lists-clean (c₃ .before .before .before .before .pre .0 .small) (omega (arith, p .kept .0, c₁ .erase-back .kept .0)) w,
     )
 
 pub j71-spec : {M : Type 1} → statement M
@@ -27,6 +26,7 @@ j71-spec =
     (tie.spec
     (λ c κs. search needs)
     (λ c. search needs)
+    (λ c κs. search needs)
     (λ c κs. search needs)
     (λ c κs. search needs)
     (λ c. search needs)

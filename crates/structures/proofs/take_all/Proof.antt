@@ -3,6 +3,7 @@ use Prim.Native.Nat.{_-_, _<_, _≤_}
 use mathlib.Core.Path.{_≡_, refl, sym, ap, _∙_, subst}
 use native.Mathlib.Omega.{arith}
 use lib.ListN.{length, getD, length-set}
+use Rattle.paper.specs.Limits.{largestN}
 use Rattle.cells.specs.Layout.{unpackOf}
 use Rattle.walk.specs.Marks.{back, Only}
 use Rattle.walk.proofs.Marks.{back-more}
@@ -15,7 +16,7 @@ use Rattle.structures.proofs.take_all.Tie as tie
 
 abbrev Inv : tie.InvT-loop
 Inv cells₀ log₀ order marks₀ n go₀ i₀ cells log marks go i =
-    (i ≤ n) × (length cells ≡ length cells₀) × (length log ≡ length log₀) × (length marks ≡ 16384) × Only marks (back i order)
+    (i ≤ n) × (length cells ≡ length cells₀) × (length log ≡ length log₀) × (length marks ≡ largestN) × Only marks (back i order)
     × Takes order n i cells₀ log₀ go₀ (newsOf marks order i) cells log go
 
 abbrev μ : tie.MeasureT-loop
@@ -37,7 +38,7 @@ room c κs =
 abbrev at : tie.After-slice-known4 Inv μ → tie.At-loop Inv μ
 at c = c .before .before .before .before .before .before .before .before
 
-inside : (c : tie.After-slice-known4 Inv μ) → getD (at c .before .before .before .args .order .now) (at c .loop .i) 0 < 16384
+inside : (c : tie.After-slice-known4 Inv μ) → getD (at c .before .before .before .args .order .now) (at c .loop .i) 0 < largestN
 inside c = at c .before .before .before .pre .0 .inside _ (omega arith)
 
 again : tie.Need-loop-again Inv μ

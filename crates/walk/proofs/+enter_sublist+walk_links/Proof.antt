@@ -3,29 +3,31 @@
 use borrow.Author.Needs.{needs}
 use Prim.Native.Nat.{ℕ, _+_, _-_, _*_, _<_, _≤_}
 use mathlib.Core.Path.{_≡_, refl, sym, ap, _∙_}
-use mathlib.Core.Bool.{false}
+use mathlib.Core.Bool.{Bool, true, false, true≢false}
 use mathlib.Core.List.{List, _∷_}
 use native.Mathlib.Omega.{arith}
 use lib.ListN.{length}
 use borrow.Fn.Kinds.{In}
 use borrow.Fn.PlainCycle.{Measures, is, falls, and}
-use Rattle.paper.specs.Cell.{Cell}
-use Rattle.paper.specs.Walk.{meet, along, listNamed, linkIn}
+use Rattle.paper.specs.Limits.{deepest}
+use Rattle.paper.specs.Cell.{Cell, linkIn}
+use Rattle.paper.specs.Walk.{enter, listNamed}
 use Rattle.cells.specs.Layout.{unpackOf, linkOf}
 use Rattle.undo.specs.declared.Acted.the-variants.{Done}
 use Rattle.undo.specs.Did.{Always, Reads}
 use Rattle.walk.specs.Marks.{back, unmet}
-use Rattle.walk.specs.Walks.{Holds, sublist}
+use Rattle.walk.specs.Walks.{Holds, Visits, arrives, sublist}
 use Rattle.walk.proofs.Leads.{Leads, leads-none, leads-end, leads-more, known, read-as}
-use Rattle.walk.proofs.Meeting.{New, s-meet}
+use Rattle.walk.proofs.Meeting.{New, s-arrives}
 use Rattle.walk.proofs.Scratch.{holds-clears, fewer, fits, seen-more, holds-more, holds-as, ends-done, ends-refused, left-done, left-refused}
-use Rattle.walk.proofs.Turn.{list-in, sublist-none, sublist-in, sublist-as, meet-refused, inner-refused, walk-end, walk-on}
+use Rattle.walk.proofs.Turn.{list-in, step, visits-as, sublist-none, sublist-in, sublist-as, meet-refused, inner-refused, walk-end, walk-on}
+use Rattle.cells.proofs.Laws.{link-in}
 use Rattle.cells.proofs.word_in.Reads as word-in-reads
 use Rattle.walk.proofs.clear.Reads as clear-reads
 use Rattle.walk.proofs.enlist.Reads as enlist-reads
 use Rattle.walk.proofs.list_named.Reads as list-named-reads
-use Rattle.walk.proofs.meet.Reads as meet-reads
-use Rattle.walk.proofs.enter_sublist.Reads as enter
+use Rattle.walk.proofs.arrive.Reads as arrive-reads
+use Rattle.walk.proofs.enter_sublist.Reads as enter-reads
 use Rattle.walk.proofs.enter_sublist.Kinds as enter-kinds
 use Rattle.walk.proofs.+enter_sublist+walk_links.Lts-enter_sublist as enter-lts
 use Rattle.walk.proofs.walk_links.Reads as links
@@ -36,16 +38,16 @@ use Rattle.walk.proofs.+enter_sublist+walk_links.Tie.{close}
 
 -- at a depth of 65 no cell is met, so no list is entered at 66
 abbrev μ-enter : Measures 3 enter-kinds.ps ℕ
-μ-enter κs a = 2 * (66 - a .1 .1 .1 .1 .0)
+μ-enter κs a = 2 * (deepest + 2 - a .1 .1 .1 .1 .0)
 
 abbrev μ-links : Measures 3 links-kinds.ps ℕ
-μ-links κs a = 2 * (66 - a .1 .1 .1 .1 .0) + 1
+μ-links κs a = 2 * (deepest + 2 - a .1 .1 .1 .1 .0) + 1
 
 abbrev enter-at : ℕ → In 3 enter-kinds.ps
-enter-at t = and 3 enter-kinds.ps (is 3 enter-kinds.ps μ-enter t) enter.Pre
+enter-at t = and 3 enter-kinds.ps (is 3 enter-kinds.ps μ-enter t) enter-reads.Pre
 
 abbrev enter-below : ℕ → In 3 enter-kinds.ps
-enter-below t = and 3 enter-kinds.ps (falls 3 enter-kinds.ps _<_ μ-enter t) enter.Pre
+enter-below t = and 3 enter-kinds.ps (falls 3 enter-kinds.ps _<_ μ-enter t) enter-reads.Pre
 
 abbrev links-at : ℕ → In 3 links-kinds.ps
 links-at t = and 3 links-kinds.ps (is 3 links-kinds.ps μ-links t) links.Pre
@@ -58,8 +60,8 @@ e-claims t = (links-below t, links.Post)
 
 abbrev l-claims : ℕ → links-lts.Claims
 l-claims t = (
-  meet-reads.Asked,
-  meet-reads.Learnt,
+  arrive-reads.Asked,
+  arrive-reads.Learnt,
   word-in-reads.Asked,
   word-in-reads.Learnt,
   clear-reads.Asked,
@@ -69,7 +71,7 @@ l-claims t = (
   list-named-reads.Asked,
   list-named-reads.Learnt,
   enter-below t,
-  enter.Post,
+  enter-reads.Post,
 )
 
 abbrev Inv : links-lts.InvT-loop
@@ -78,31 +80,32 @@ Inv cells order₀ marks₀ head depth from c₀ n₀ linked₀ order marks c n 
     let z = unmet (length cells) marks in
     Holds cells order marks n
     × (z ≤ z₀)
-    × Leads cells (λ f. along f depth false head (back from order₀)) z₀ (λ f. along f depth linked c (back n order)) z
+    × (linked ≡ true → depth ≤ deepest)
+    × Leads (λ f. Visits (enter f depth head) cells (back from order₀)) z₀ (λ f. Visits (step linked f depth c) cells (back n order)) z
 
 abbrev μ : links-lts.MeasureT-loop
 μ cells order₀ marks₀ head depth from c₀ n₀ linked₀ order marks c n linked = unmet (length cells) marks
 
 module _ (t : ℕ) where
-  e-returns : enter-lts.Need-returns (e-claims t) (enter-at t) enter.Post
+  e-returns : enter-lts.Need-returns (e-claims t) (enter-at t) enter-reads.Post
   e-returns c = record { says = λ f h. sublist-none _ _ _ f (c .if1 .taken); left = (c .before .before .pre .1 .0, omega arith) }
 
-  e-add : enter-lts.Need-add-walk-links (e-claims t) (enter-at t) enter.Post
+  e-add : enter-lts.Need-add-walk-links (e-claims t) (enter-at t) enter-reads.Post
   e-add c = omega arith
 
-  e-walk-links : enter-lts.Need-walk-links-requires (e-claims t) (enter-at t) enter.Post
+  e-walk-links : enter-lts.Need-walk-links-requires (e-claims t) (enter-at t) enter-reads.Post
   e-walk-links c κs = (omega arith, (c .before .before .before .before .pre .1 .0, omega arith))
 
-  e-returns-2 : enter-lts.Need-returns-2 (e-claims t) (enter-at t) enter.Post
+  e-returns-2 : enter-lts.Need-returns-2 (e-claims t) (enter-at t) enter-reads.Post
   e-returns-2 c =
       let e = c .walk-links .ensures in
       record { says = λ f h. sublist-in _ _ _ f (c .before .before .before .if1 .left) (e .says f h); left = e .left }
 
   holds : links-lts.Need-loop-holds (l-claims t) (links-at t) links.Post Inv μ
-  holds c = (c .before .pre .1 .0, omega arith, leads-none _ _)
+  holds c = (c .before .pre .1 .0, omega arith, (λ e. absurd (true≢false (sym e))), leads-none _ _)
 
-  meet-requires : links-lts.Need-meet-requires (l-claims t) (links-at t) links.Post Inv μ
-  meet-requires c κs = c .before .loop .inv .0 .wide
+  arrive-requires : links-lts.Need-arrive-requires (l-claims t) (links-at t) links.Post Inv μ
+  arrive-requires c κs = c .before .loop .inv .0 .wide
 
   word-in-requires : links-lts.Need-word-in-requires (l-claims t) (links-at t) links.Post Inv μ
   word-in-requires c κs = search needs
@@ -122,9 +125,9 @@ module _ (t : ℕ) where
       let c₂ = c₁ .before .before .before in
       let l = c₂ .before .before .loop in
       let e = c₁ .enum-told2 .given .1 in
-      let m = c₂ .meet .ensures _ (l .inv .0 .marked) in
+      let m = c₂ .arrive .ensures _ (l .inv .0 .marked) in
       record {
-        says = leads-end (l .inv .2) _ _ (λ k h. read-as (sym e) (meet-refused _ _ _ _ k (read-as e m)));
+        says = leads-end (l .inv .3) _ _ (λ k h. visits-as (sym e) (meet-refused _ _ _ _ k (read-as e m)));
         left = left-refused _ _ _ _ _ e (l .inv .0 .ordered .sized, c .clear .ensures, refl);
       }
 
@@ -145,13 +148,17 @@ module _ (t : ℕ) where
   seen c = back (at c .loop .n) (at c .loop .order)
 
   abbrev cell : Met → Cell
-  cell c = unpackOf (c .before .before .before .meet .result .x)
+  cell c = unpackOf (c .before .before .before .arrive .result .x)
 
-  met : (c : Met) → Reads Always (meet (at c .loop .linked) (depth c) (at c .loop .c) (seen c)) (cells c) Done Done (cell c)
-  met c = read-as (c .enum-told .given .1) (c .before .before .before .meet .ensures _ (at c .loop .inv .0 .marked))
+  met : (c : Met) → Reads Always (arrives (at c .loop .linked) (depth c) (at c .loop .c) (seen c)) (cells c) Done Done (cell c)
+  met c = read-as (c .enum-told .given .1) (c .before .before .before .arrive .ensures _ (at c .loop .inv .0 .marked))
 
-  new : (c : Met) → New (length (cells c)) (at c .loop .c) (seen c) × (depth c ≤ 64)
-  new c = known _ _ _ _ _ (s-meet _ _ _ _ _) (met c)
+  new : (c : Met) → New (length (cells c)) (at c .loop .c) (seen c) × (depth c ≤ deepest)
+  new c = let k = known _ _ _ _ _ (s-arrives _ _ _ _ _) (met c) in (k .0, either (at c .loop .linked) (at c .loop .inv .2) (k .1))
+    where
+      either : {P : Type 0} (b : Bool) → (b ≡ true → P) → (b ≡ false → P) → P
+      either true f g = f refl
+      either false f g = g refl
 
   enlist-requires : links-lts.Need-enlist-requires (l-claims t) (links-at t) links.Post Inv μ
   enlist-requires c κs =
@@ -189,8 +196,8 @@ module _ (t : ℕ) where
   on c = c .before .before .before .before
 
   inner : (c : Entered) (k : ℕ) → unmet (length (cells (of (on c)))) (at (of (on c)) .loop .marks) ≤ k
-      → Reads Always (sublist (depth (of (on c))) (listNamed (cell (of (on c)))) (at (of (on c)) .loop .c ∷ seen (of (on c))) k) (cells (of (on c)))
-      Done (c .enter-sublist .result .go) (back (c .enter-sublist .result .n) (c .enter-sublist .last .1 .0))
+      → Visits (sublist (depth (of (on c))) (listNamed (cell (of (on c)))) k) (cells (of (on c))) (at (of (on c)) .loop .c ∷ seen (of (on c)))
+      (c .enter-sublist .result .go) (back (c .enter-sublist .result .n) (c .enter-sublist .last .1 .0))
   inner c k h =
       let m = of (on c) in
       sublist-as _ _ _ k (c .before .list-named .ensures ∙ list-in (cell m) _ (m .before .before .word-in .ensures))
@@ -209,7 +216,7 @@ module _ (t : ℕ) where
       let m = of (on i) in
       let e = c .enum-told4 .given .1 in
       record {
-        says = leads-end (at m .loop .inv .2) _ _ (λ k h. read-as (sym e) (inner-refused _ _ _ _ k (met m) (read-as e (inner i k h))));
+        says = leads-end (at m .loop .inv .3) _ _ (λ k h. visits-as (sym e) (inner-refused _ _ _ _ k (met m) (visits-as e (inner i k h))));
         left = left-refused _ _ _ _ _ e (ends-refused (i .enter-sublist .ensures) e);
       }
 
@@ -233,7 +240,7 @@ module _ (t : ℕ) where
   went c = ends-done (by c .enter-sublist .ensures) (c .enum-told3 .given .1)
 
   link : (c : Went) → linkIn (cell (of (on (by c)))) ≡ linkOf (of (on (by c)) .before .before .word-in .result)
-  link c = ap (λ w. w .link) (of (on (by c)) .before .before .word-in .ensures)
+  link c = link-in (cell (of (on (by c)))) _ (of (on (by c)) .before .before .word-in .ensures)
 
   returns-3 : links-lts.Need-returns-3 (l-claims t) (links-at t) links.Post Inv μ
   returns-3 c =
@@ -243,8 +250,8 @@ module _ (t : ℕ) where
       let f = less (on (by g)) in
       let w = went g in
       record {
-        says = leads-end (at m .loop .inv .2) _ _
-            (λ k h. read-as (sym e) (walk-end _ _ _ _ k (met m) (link g) (read-as e (inner (by g) k h)) (c .if1 .taken)));
+        says = leads-end (at m .loop .inv .3) _ _
+            (λ k h. visits-as (sym e) (walk-end _ _ _ _ k (met m) (link g) (visits-as e (inner (by g) k h)) (c .if1 .taken)));
         left = left-done _ _ _ _ _ e (w .0) (omega (arith, w .1, at m .loop .inv .1));
       }
 
@@ -260,17 +267,18 @@ module _ (t : ℕ) where
       let w = went g in (
         w .0,
         omega (arith, w .1, at m .loop .inv .1),
-        leads-more (at m .loop .inv .2) _ _ (omega (arith, w .1))
-            (λ k h r v d. walk-on _ _ _ _ k (met m) (link g) (read-as e (inner (by g) k h)) (c .if1 .left) d),
+        (λ q. new m .1),
+        leads-more (at m .loop .inv .3) _ _ (omega (arith, w .1))
+            (λ k h r v d. walk-on _ _ _ _ k (met m) (link g) (visits-as e (inner (by g) k h)) (c .if1 .left) d),
       )
 
 pub +enter-sublist+walk-links-spec : {M : Type 1} → statement M
 +enter-sublist+walk-links-spec =
     close μ-enter μ-links
-    (λ t. enter-lts.spec (e-claims t) (enter-at t) enter.Post (e-returns t) (e-add t) (e-walk-links t) (e-returns-2 t))
+    (λ t. enter-lts.spec (e-claims t) (enter-at t) enter-reads.Post (e-returns t) (e-add t) (e-walk-links t) (e-returns-2 t))
     (λ t. links-lts.spec (l-claims t) (links-at t) links.Post Inv μ
     (holds t)
-    (meet-requires t)
+    (arrive-requires t)
     (word-in-requires t)
     (told t)
     (told-2 t)

@@ -25,7 +25,7 @@ returns-2 c =
     let p = c₁ .enum-told .given .1 in
     let w = chain-new _ m p (c₂ .before .before .args .order .now) in
     record {
-      says = chain-one _ m p (sym (c .before .is-integer .ensures) ∙ c .if1 .taken) (sym (seen-more (clean-holds l) _ w));
+      says = chain-one _ m p (sym (c .before .is-term .ensures) ∙ c .if1 .taken) (sym (seen-more (clean-holds l) _ w));
       few = omega (arith, w .0);
       ordered = holds-more (clean-holds l) _ w .ordered;
       unmarked = l .unmarked;
@@ -39,7 +39,7 @@ returns-3 c =
     let c₄ = c₃ .before .before in
     let e = c₁ .chain-links .ensures in
     ends-lists e (c .clear .ensures)
-    (chain-long _ (c₄ .touch .ensures) (c₃ .enum-told .given .1) (sym (c₂ .before .is-integer .ensures) ∙ c₂ .if1 .left)
+    (chain-long _ (c₄ .touch .ensures) (c₃ .enum-told .given .1) (sym (c₂ .before .is-term .ensures) ∙ c₂ .if1 .left)
     (e .says _ (clean-turns (c₄ .before .before .pre))))
 
 pub chain-spec : {M : Type 1} → statement M

@@ -26,7 +26,9 @@ abbrev Inv : tie.InvT-loop
 Inv cells order₀ marks₀ head c₀ met₀ order marks c met =
     let z₀ = unmet (length cells) marks₀ in
     let z = unmet (length cells) marks in
-    Holds cells order marks met × (z ≤ z₀) × Leads cells (λ f. chain f head []) z₀ (λ f. chain f c (back met order)) z
+    Holds cells order marks met
+    × (z ≤ z₀)
+    × Leads (λ f. Reads Always (chain f head []) cells Done) z₀ (λ f. Reads Always (chain f c (back met order)) cells Done) z
 
 abbrev μ : tie.MeasureT-loop
 μ cells order₀ marks₀ head c₀ met₀ order marks c met = unmet (length cells) marks

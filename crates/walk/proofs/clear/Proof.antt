@@ -3,19 +3,20 @@ use Prim.Native.Nat.{_-_, _<_, _≤_}
 use mathlib.Core.Path.{_≡_, subst}
 use native.Mathlib.Omega.{arith}
 use lib.ListN.{length, getD, length-set}
+use Rattle.paper.specs.Limits.{largestN}
 use Rattle.walk.specs.Marks.{back, Only}
 use Rattle.walk.proofs.Marks.{back-less, only-less, only-none}
 use Rattle.walk.proofs.clear.Statement.{statement}
 use Rattle.walk.proofs.clear.Tie as tie
 
 abbrev Inv-loop : tie.InvT-loop
-Inv-loop order marks₀ n k₀ marks k = (k ≤ n) × (length marks ≡ 16384) × Only marks (back k order)
+Inv-loop order marks₀ n k₀ marks k = (k ≤ n) × (length marks ≡ largestN) × Only marks (back k order)
 
 abbrev μ-loop : tie.MeasureT-loop
 μ-loop order marks₀ n k₀ marks k = k
 
 -- the cell whose mark is taken away
-inside : (c : tie.In-loop Inv-loop μ-loop) → getD (c .before .before .args .order .now) (c .before .loop .k - 1) 0 < 16384
+inside : (c : tie.In-loop Inv-loop μ-loop) → getD (c .before .before .args .order .now) (c .before .loop .k - 1) 0 < largestN
 inside c = c .before .before .pre .inside _ (omega arith)
 
 loop-again : tie.Need-loop-again Inv-loop μ-loop

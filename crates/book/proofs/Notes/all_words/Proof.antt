@@ -1,3 +1,4 @@
+use Rattle.paper.specs.Limits.{manyLocals}
 use Rattle.book.proofs.KeptLaws.{words-missing, words-on, words-end}
 use lib.ListN.{length}
 use native.Mathlib.Omega.{arith}
@@ -11,10 +12,10 @@ use Rattle.book.proofs.Notes.all_words.Statement.{statement}
 use Rattle.book.proofs.Notes.all_words.Tie as tie
 
 abbrev Inv-loop : tie.InvT-loop
-Inv-loop self i₀ i = (i ≤ 64) × (wordsFrom (self .locals) (self .filled) i ≡ allWords (localsOf (self .locals) (self .filled)))
+Inv-loop self i₀ i = (i ≤ manyLocals) × (wordsFrom (self .locals) (self .filled) i ≡ allWords (localsOf (self .locals) (self .filled)))
 
 abbrev μ-loop : tie.MeasureT-loop
-μ-loop self i₀ i = 64 - i
+μ-loop self i₀ i = manyLocals - i
 
 returns : tie.Need-returns Inv-loop μ-loop
 returns c =
@@ -35,7 +36,7 @@ returns-2 : tie.Need-returns-2 Inv-loop μ-loop
 returns-2 c =
     let c₁ = c .before in
     let c₂ = c₁ .before in
-    let l : length (c₂ .args .t1 .locals) ≡ 64 = search needs in
+    let l : length (c₂ .args .t1 .locals) ≡ manyLocals = search needs in
     sym (words-end (c₂ .args .t1 .locals) (c₂ .args .t1 .filled) (c₁ .loop .i) (omega arith)) ∙ c₁ .loop .inv .1
 
 pub all-words-spec : {M : Type 1} → statement M

@@ -1,3 +1,4 @@
+use Rattle.paper.specs.Limits.{manyLocals}
 use lib.ListN.{length}
 use native.Mathlib.Omega.{arith}
 use mathlib.Core.Path.{_≡_}
@@ -15,7 +16,7 @@ returns c =
 returns-2 : tie.Need-returns-2
 returns-2 c =
     let c₁ = c .before in
-    let l : length (c₁ .args .t1 .locals) ≡ 64 = search needs in
+    let l : length (c₁ .args .t1 .locals) ≡ manyLocals = search needs in
     sym (ap (λ x. x .hasWord) (local-out (c₁ .args .t1 .locals) (c₁ .args .t1 .filled) _ (omega arith)))
 
 pub has-word-spec : {M : Type 1} → statement M

@@ -1,3 +1,4 @@
+use Rattle.paper.specs.Limits.{manyLocals}
 use lib.ListN.{length}
 use native.Mathlib.Omega.{arith}
 use mathlib.Core.Path.{_≡_}
@@ -9,8 +10,8 @@ use Rattle.book.proofs.Notes.with_local.Tie as tie
 returns-2 : tie.Need-returns-2
 returns-2 c =
     let c₁ = c .before in
-    let l : length (c₁ .args .t1 .locals) ≡ 64 = search needs in
-    let f : length (c₁ .args .t1 .filled) ≡ 64 = search needs in
+    let l : length (c₁ .args .t1 .locals) ≡ manyLocals = search needs in
+    let f : length (c₁ .args .t1 .filled) ≡ manyLocals = search needs in
     simp (
       set-out (c₁ .args .t1 .locals) (c₁ .args .n) (c₁ .args .c) (omega arith),
       set-out (c₁ .args .t1 .filled) (c₁ .args .n) (c₁ .args .w) (omega arith),

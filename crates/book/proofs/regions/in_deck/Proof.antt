@@ -1,8 +1,8 @@
 use Rattle.sound.proofs.RegionLaws.{rest, end-more}
 use Rattle.book.proofs.RegionLaws.{more-fits, deck-here, deck-past, deck-more, deck-none}
 use Rattle.sound.specs.Table.{regionsOf}
-use Rattle.paper.specs.Deck.{inDeck}
-use Rattle.paper.specs.Cell.{endOfRegions}
+use Rattle.paper.specs.Limits.{largestN, firstDeck}
+use Rattle.paper.specs.Region.{endOfRegions, cellFrom}
 use lib.ListN.{length}
 use mathlib.Core.Path.{_≡_, refl, ap, sym, _∙_}
 use Prim.Native.Nat.{_≤_, _<_, _+_, _-_}
@@ -13,8 +13,8 @@ use Rattle.book.proofs.regions.in_deck.Tie as tie
 
 abbrev Inv-loop : tie.InvT-loop
 Inv-loop b n regions m from₀ i₀ from i =
-    (i ≤ m) × (from ≤ 16384) × (endOfRegions (rest regions i) from ≡ endOfRegions (regionsOf regions) 221) ×
-    (inDeck (rest regions i) from b n ≡ inDeck (regionsOf regions) 221 b n)
+    (i ≤ m) × (from ≤ largestN) × (endOfRegions (rest regions i) from ≡ endOfRegions (regionsOf regions) firstDeck) ×
+    (cellFrom (rest regions i) from b n ≡ cellFrom (regionsOf regions) firstDeck b n)
 
 abbrev μ-loop : tie.MeasureT-loop
 μ-loop b n regions m from₀ i₀ from i = m - i

@@ -1,39 +1,59 @@
-use Rattle.paper.proofs.FreshLaws.{f-zero, f-H2, f-HW, f-J}
+use native.Mathlib.Numerals.{add-one}
+use Rattle.paper.specs.Deck.{nextFree}
+use Rattle.paper.proofs.FreshLaws.{f-zero, f-H2, f-HW, f-J, f-region, f-free}
 use Rattle.deck.proofs.FreshLaws.{packs-as, empty-packs}
-use Rattle.paper.specs.Cell.{word, emptyWord}
+use Rattle.paper.specs.Cell.{word, free, emptyWord}
 use mathlib.Core.Path.{ap, _∙_, sym}
 use borrow.Author.Needs.{needs}
 use Rattle.deck.proofs.fresh.fresh_cell.Statement.{statement}
 use Rattle.deck.proofs.fresh.fresh_cell.Tie as tie
 
 returns : tie.Need-returns
-returns c = packs-as (f-zero _ _ _ (c .before .match .keys1)) (c .of-fields .ensures)
+returns c = packs-as (f-zero _ _ _ (c .before .if1 .taken)) (c .of-fields .ensures)
 
 returns-2 : tie.Need-returns-2
 returns-2 c =
     let c₁ = c .before in
     let c₂ = c₁ .before in
-    packs-as (f-H2 _ _ _ (c₂ .match .keys2) ∙ ap (λ n. word (emptyWord n)) (sym (c₁ .next-free .ensures))) (c .of-fields2 .ensures)
+    packs-as (f-H2 _ _ _ (c₂ .if2 .taken) ∙ ap (λ n. word (emptyWord n)) (sym (c₁ .next-free .ensures))) (c .of-fields2 .ensures)
 
 returns-3 : tie.Need-returns-3
 returns-3 c =
     let c₁ = c .before in
-    packs-as (f-HW _ _ _ (c₁ .match .rest .0 .1) (c₁ .match .rest .1) (search needs)) empty-packs
+    packs-as (f-HW _ _ _ (c₁ .before .if1 .left) (c₁ .if2 .left) (c .if3 .taken)) empty-packs
 
 returns-4 : tie.Need-returns-4
-returns-4 c = packs-as (f-J _ _ _ (search needs) (search needs)) (c .of-process .ensures)
+returns-4 c =
+    let c₁ = c .before in
+    packs-as (f-J _ _ _ (c₁ .before .if3 .left) (c₁ .if4 .taken)) (c .of-process .ensures)
+
+returns-5 : tie.Need-returns-5
+returns-5 c = packs-as (f-region _ _ _ (c .before .if4 .left) (c .if5 .taken)) empty-packs
+
+returns-6 : tie.Need-returns-6
+returns-6 c =
+    let c₁ = c .before in
+    let c₂ = c₁ .before in
+    let c₃ = c₂ .before in
+    let c₄ = c₃ .before .before .before .before in
+    packs-as
+    (f-free _ _ _ (c₃ .if4 .left) (c₂ .if5 .left)
+    ∙ ap free (sym (c₁ .next-free2 .ensures ∙ ap (nextFree (c₄ .args .size)) (add-one (c₄ .args .c))))) (c .of-free .ensures)
 
 pub fresh-cell-spec : {M : Type 1} → statement M
 fresh-cell-spec =
     tie.close
     (tie.spec
     (λ c κs. search needs)
-    (λ c κs. search needs)
-    (λ c κs. search needs)
-    (λ c κs. search needs)
-    (λ c κs. search needs)
     returns
+    (λ c κs. search needs)
+    (λ c κs. search needs)
     returns-2
     returns-3
+    (λ c κs. search needs)
     returns-4
-    (λ c. search needs))
+    returns-5
+    (λ c. search needs)
+    (λ c κs. search needs)
+    (λ c κs. search needs)
+    returns-6)

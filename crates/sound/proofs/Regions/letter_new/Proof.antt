@@ -1,11 +1,10 @@
-use mathlib.Core.Path.{sym}
+use mathlib.Core.Path.{refl}
 use borrow.Author.Needs.{needs}
-use Rattle.sound.proofs.RegionLaws.{new-letter}
 use Rattle.sound.proofs.Regions.letter_new.Statement.{statement}
 use Rattle.sound.proofs.Regions.letter_new.Tie as tie
 
 returns : tie.Need-returns
-returns c = rw (c .letter-taken .ensures) (sym (new-letter _ _))
+returns c = rw (c .letter-taken .ensures) refl
 
 pub letter-new-spec : {M : Type 1} → statement M
 letter-new-spec = tie.close (tie.spec (λ c κs. search needs) returns)

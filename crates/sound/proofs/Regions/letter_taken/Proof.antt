@@ -3,8 +3,8 @@ use Prim.Native.Nat.{_-_}
 use mathlib.Core.Path.{_≡_, refl, sym, _∙_}
 use native.Mathlib.Omega.{arith}
 use borrow.Author.Needs.{needs}
-use Rattle.paper.specs.Deck.{letterTaken}
-use Rattle.sound.proofs.RegionLaws.{rest, taken-here, taken-more, taken-none}
+use Rattle.paper.specs.Region.{letterTaken}
+use Rattle.sound.proofs.RegionLaws.{rest, taken-there, not-there, taken-here, taken-more, taken-none}
 use Rattle.sound.proofs.Regions.letter_taken.Statement.{statement}
 use Rattle.sound.proofs.Regions.letter_taken.Tie as tie
 
@@ -17,7 +17,8 @@ abbrev μ-loop : tie.MeasureT-loop
 returns : tie.Need-returns Inv-loop μ-loop
 returns c =
     let l = c .before .before .before .loop in
-    sym (taken-here (c .before .before .before .before .before .args .t1) (l .i) (omega arith) _ (c .if1 .taken)) ∙ l .inv
+    let e = taken-here (c .before .before .before .before .before .args .t1) (l .i) (omega arith) _ (c .if1 .taken) in
+    taken-there _ _ (sym (l .inv) ∙ e)
 
 loop-again : tie.Need-loop-again Inv-loop μ-loop
 loop-again c =
@@ -25,7 +26,10 @@ loop-again c =
     taken-more (c .before .before .before .before .before .args .t1) (l .i) (omega arith) _ (c .if1 .left) ∙ l .inv
 
 returns-2 : tie.Need-returns-2 Inv-loop μ-loop
-returns-2 c = let l = c .before .loop in taken-none (c .before .before .before .args .t1) (l .i) (omega arith) _ ∙ l .inv
+returns-2 c =
+    let l = c .before .loop in
+    let e = taken-none (c .before .before .before .args .t1) (l .i) (omega arith) _ in
+    not-there _ _ (sym (l .inv) ∙ e)
 
 pub letter-taken-spec : {M : Type 1} → statement M
 letter-taken-spec =

@@ -5,7 +5,7 @@ use mathlib.Core.Path.{_≡_, refl, _∙_}
 use native.Mathlib.Omega.{arith}
 use borrow.Author.Needs.{needs}
 use borrow.Author.Tests.{not-true, not-false}
-use Rattle.paper.specs.Sound.{regionsSound}
+use Rattle.paper.specs.Region.{regionsSound}
 use Rattle.sound.specs.Table.{regionsOf}
 use Rattle.sound.proofs.RegionLaws.{rest, sound-turn, sound-none}
 use Rattle.sound.proofs.Regions.regions_sound.Statement.{statement}

@@ -1,7 +1,7 @@
 use Rattle.lines.proofs.TextLaws.{text-as, name-H, name-W, name-J, name-deck}
 use borrow.Author.Needs.{needs}
-use Rattle.lines.proofs.regional_name.Statement.{statement}
-use Rattle.lines.proofs.regional_name.Tie as tie
+use Rattle.lines.proofs.cell_text.Statement.{statement}
+use Rattle.lines.proofs.cell_text.Tie as tie
 
 returns : tie.Need-returns
 returns c = text-as (name-H _ _ (c .before .before .if1 .taken)) (c .lettered .ensures)
@@ -13,10 +13,10 @@ returns-3 : tie.Need-returns-3
 returns-3 c = text-as (name-J _ _ (c .before .before .before .if2 .left) (c .before .before .if3 .taken)) (c .lettered3 .ensures)
 
 returns-4 : tie.Need-returns-4
-returns-4 c = text-as (name-deck _ _ (c .before .before .if3 .left)) (c .deck-name .ensures)
+returns-4 c = text-as (name-deck _ _ (c .before .before .if3 .left)) (c .deck-text .ensures)
 
-pub regional-name-spec : {M : Type 1} → statement M
-regional-name-spec =
+pub cell-text-spec : {M : Type 1} → statement M
+cell-text-spec =
     tie.close
     (tie.spec
     (λ c. search needs)

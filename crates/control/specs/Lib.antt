@@ -1,0 +1,2 @@
+-- Where control is after an operation, as the code has it.
+pub mod Moves

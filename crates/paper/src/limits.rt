@@ -1,0 +1,49 @@
+// The numbers of document 01 that bound something, as specs/Limits has them, and the cells that the machine names.
+
+// "N from 256 to 16,384."
+pub const SMALLEST_N: usize = 256;
+
+pub const LARGEST_N: usize = 16384;
+
+// "Deck regions follow from 221."
+pub const FIRST_DECK: u16 = 221;
+
+// "number to 9,999"; "counts 1 to 9,999".
+pub const LARGEST_NUMBER: u16 = 9999;
+
+// "local, 0..63": so many.
+pub const MANY_LOCALS: usize = 64;
+
+// "P is 0..7"; "Q is 0..2", of a deck's words.
+pub const LARGEST_P: u8 = 7;
+
+pub const LARGEST_Q: u8 = 2;
+
+// "nesting at most 64".
+pub const DEEPEST: usize = 64;
+
+// "budget over 1,000,000" is refused.
+pub const LARGEST_BUDGET: u64 = 1000000;
+
+// The letters of deck regions: all but H, W and J.
+pub const MANY_REGIONS: usize = 23;
+
+// The longest line with its line feed: `-` and ten digits.
+pub const LONGEST_LINE: usize = 12;
+
+// H0 to H9 are cells 1 to 10, W0 to W9 11 to 20, J0 to J199 21 to 220.
+pub const H0: u16 = 1;
+
+pub const H1: u16 = 2;
+
+pub const H2: u16 = 3;
+
+pub const H5: u16 = 6;
+
+pub const W0: u16 = 11;
+
+pub const J0: u16 = 21;
+
+pub const J3: u16 = 24;
+
+pub const J4: u16 = 25;
