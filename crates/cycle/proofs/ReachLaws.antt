@@ -5,16 +5,17 @@ use mathlib.Core.Bool.{Bool, true, false, _&&_}
 use mathlib.Core.List.{List}
 use native.Mathlib.Omega.{arith}
 use native.Mathlib.Numerals.{add-one}
-use borrow.Author.Tests.{eqb-true, ne-eqb}
+use borrow.Author.Tests.{eqb-true, eqb-false, ne-eqb}
 use lib.Dec.{eqb, ltb}
 use lib.ListN.{length, take}
 use Rattle.paper.specs.declared.Refusal.the-variants.{CellZero, FreeCell, WrongKind}
 use Rattle.paper.specs.declared.Symbol.{Symbol}
-use Rattle.paper.specs.Cell.{Cell, free, word, integer, process, Word, Region, State, cellAt, isFree, isProcess, symbolOf}
+use Rattle.paper.specs.Cell.{Cell, free, word, term, process, Word, Region, State, H, J, cellAt, isFree, isProcess, symbolOf}
 use Rattle.paper.specs.declared.Refusal.{Refusal}
 use Rattle.paper.specs.Act.{Act, Res, done, refused, _>>=_, _>>_, ret, refuse, refuseIf, ifThen, sized, peek, own, touch, notOwn, pop}
-use Rattle.paper.specs.Process.{perform}
-use Rattle.paper.specs.Cycle.{Control, after, descend, popThen, performs, execute, executes}
+use Rattle.paper.specs.Cycle.{Control, after, descend, performs, execute, executes}
+use Rattle.ranges.specs.Effect.{effect}
+use Rattle.ranges.proofs.NextLaws.{performs-others, performs-j1}
 use Rattle.paper.proofs.SoundStore.{and-true}
 use Rattle.paper.proofs.Handed.{when-done}
 use Rattle.paper.proofs.ReadLaws.{r-touch}
@@ -90,36 +91,46 @@ unfolding ifThen
 no-at m n t p = rw p
 
 -- "J1 pop (0), execute it"
-j1-pops : (f : ℕ) (y : Symbol) (t : State) → y .num ≡ 22 → isProcess (cellAt (t .cells) 22) ≡ true → execute (suc f) y t ≡ popThen (λ z. execute f z) t
-unfolding execute performs notOwn
+popThen : (Symbol → Act Control) → Act Control
+popThen again = do
+  w ← own (H 0)
+  pop
+  again (symbolOf w)
+
+j1-pops : (f : ℕ) (y : Symbol) (t : State) → y .num ≡ J 1 → isProcess (cellAt (t .cells) (J 1)) ≡ true
+    → execute (suc f) y t ≡ popThen (λ z. execute f z) t
+unfolding execute notOwn popThen
 j1-pops f y t n p =
     rw n
-    (bind-ok (touch 22) _ t t _ (touches 22 t refl (not-free (cellAt (t .cells) 22) p))
-    (then-ok (notOwn 22) _ t t tt (passes _ _ t refl) (yes-at _ _ t p ∙ yes-at (popThen (λ z. execute f z)) (after (perform 1)) t {b = true} refl)))
+    (bind-ok (touch (J 1)) _ t t _ (touches (J 1) t refl (not-free (cellAt (t .cells) (J 1)) p))
+    (then-ok (notOwn (J 1)) _ t t tt (passes _ _ t refl) (yes-at _ _ t p ∙ ap (λ (m : Act Control). m t) (performs-j1 (λ z. execute f z)))))
   where
     not-free : (x : Cell) → isProcess x ≡ true → isFree x ≡ false
     not-free (free l) h = sym h
     not-free (word w) h = refl
-    not-free (integer z) h = refl
+    not-free (term t) h = refl
     not-free process h = refl
 
 -- anything but J1 is executed at once
 module _ (f : ℕ) (y : Symbol) where
-  fork : (x : Cell) (t : State) (b : Bool) → isProcess x ≡ b → (eqb (y .num) 22 && b) ≡ false
-      → (notOwn (y .num) >> ifThen (isProcess x) (performs (λ z. execute f z) (y .num)) (descend y)) t
-      ≡ (notOwn (y .num) >> ifThen (isProcess x) (after (perform (y .num - 21))) (descend y)) t
-  unfolding performs
+  fork : (x : Cell) (t : State) (b : Bool) → isProcess x ≡ b → (eqb (y .num) (J 1) && b) ≡ false
+      → (notOwn (y .num) >> ifThen (isProcess x) (performs (λ z. execute f z) (y .num - J 0)) (descend y)) t
+      ≡ (notOwn (y .num) >> ifThen (isProcess x) (after (effect (y .num - J 0))) (descend y)) t
   fork x t false h p = ap (λ M. (notOwn (y .num) >> M) t) (sym (if-no _ h) ∙ if-no _ h)
-  fork x t true h p = ap (λ M. (notOwn (y .num) >> ifThen (isProcess x) M (descend y)) t) (sym (if-no _ (and-yes _ p)))
+  fork x t true h p =
+      ap (λ M. (notOwn (y .num) >> ifThen (isProcess x) M (descend y)) t) (performs-others (λ z. execute f z) (y .num - J 0) (not-j1 (and-yes _ p)))
     where
       and-yes : (b : Bool) → (b && true) ≡ false → b ≡ false
       and-yes true h = h
       and-yes false h = refl
 
-  at-once : (t : State) → (eqb (y .num) 22 && isProcess (cellAt (t .cells) (y .num))) ≡ false → execute (suc f) y t ≡ atOnce y t
+      not-j1 : eqb (y .num) (J 1) ≡ false → y .num - J 0 ≡ 1 → ⊥
+      not-j1 e q = eqb-false (y .num) (J 1) e (omega arith)
+
+  at-once : (t : State) → (eqb (y .num) (J 1) && isProcess (cellAt (t .cells) (y .num))) ≡ false → execute (suc f) y t ≡ atOnce y t
   unfolding execute atOnce
   at-once t p = bind-alike (touch (y .num)) _ _ t
-      λ x u e. fork x u (isProcess x) refl (ap (λ z. eqb (y .num) 22 && isProcess z) (when-done (r-touch (y .num)) t u x refl e .1 .0) ∙ p)
+      λ x u e. fork x u (isProcess x) refl (ap (λ z. eqb (y .num) (J 1) && isProcess z) (when-done (r-touch (y .num)) t u x refl e .1 .0) ∙ p)
 
 -- the turns of the definition
 turns : (x : Symbol) (e : Rest) (s : List ℕ) → executes x (stateOf e s) ≡ execute (length s + 1) x (stateOf e s)
@@ -137,7 +148,7 @@ module _ {top : ℕ} {s l : List ℕ} where
   j1-turn zero y p j o v d = absurd (omega (arith, p))
   j1-turn (suc n) y {z} {w} {a} {b} {s₁} {l₁} p j o v d =
       let (q, g) = and-true _ _ j in
-      let c = eqb-true (y .num) 22 (and-true _ _ q .0) in
+      let c = eqb-true (y .num) (J 1) (and-true _ _ q .0) in
       let less : n ≡ suc n - 1 = omega arith in
       record {
         is = λ e k. same a _ (popThen (λ z. execute n z)) (stateOf e s) (λ h. j1-pops n y (stateOf e s) c (ap (λ (i : ℕ). isProcess (cellIn s i)) (sym c) ∙ g))
@@ -168,8 +179,8 @@ module _ {top : ℕ} {s l : List ℕ} where
           → execute n y (stateOf e s) ≡ (wrong n >>= (λ u. atOnce y)) (stateOf e s)
       tested zero p e h = sym (bind-no (wrong 0) _ (stateOf e s) _ (fails _ _ (stateOf e s) refl))
       tested (suc n) p e h =
-          let q = ap (λ b. eqb (y .num) 22 && b && isProcess (cellIn s (y .num))) (sym h) ∙ p (omega arith) in
-          at-once n y (stateOf e s) (sym (dropped (eqb (y .num) 22) _) ∙ q)
+          let q = ap (λ b. eqb (y .num) (J 1) && b && isProcess (cellIn s (y .num))) (sym h) ∙ p (omega arith) in
+          at-once n y (stateOf e s) (sym (dropped (eqb (y .num) (J 1)) _) ∙ q)
           ∙ sym (bind-ok (wrong (suc n)) _ (stateOf e s) (stateOf e s) tt (passes _ _ (stateOf e s) (ne-eqb (suc n) 0 (omega arith))) refl)
 
       go : (n : ℕ) → (0 < n → isJ1 s a (y .num) ≡ false) → Judged (wrong n) a r → (e : Rest)
@@ -192,7 +203,7 @@ reach-steps d f = record {
 }
 
 -- the test for J1
-pub j1-other : (s : List ℕ) (a : Acted) (c : ℕ) → eqb c 22 ≡ false → false ≡ isJ1 s a c
+pub j1-other : (s : List ℕ) (a : Acted) (c : ℕ) → eqb c (J 1) ≡ false → false ≡ isJ1 s a c
 j1-other s a c p = rw p
 
 pub j1-refused : (s : List ℕ) (c : ℕ) {a : Acted} {z : Refusal} → a ≡ Refused z → false ≡ isJ1 s a c

@@ -9,7 +9,7 @@ use lib.Dec.{eqb}
 use Rattle.paper.specs.declared.Symbol.{Symbol}
 use Rattle.paper.specs.Cell.{Region}
 use Rattle.paper.specs.Act.{Act, ret, ifThen, choose}
-use Rattle.paper.specs.Cycle.{after, branch, operate}
+use Rattle.paper.specs.Cycle.{Control, goesOn, after, branch, operate}
 use Rattle.cells.specs.Bridge.{Rest}
 use Rattle.undo.specs.declared.Acted.{Acted}
 use Rattle.undo.specs.Did.{Top, Did}
@@ -20,18 +20,18 @@ use Rattle.perform.proofs.StepLaws.{steps-most, steps-alike, steps-then}
 
 -- control goes on
 pub goes-on-after : {K : Rest → Type 0} {j k : ℕ} {M : Act (Unit {0})} {s l s′ l′ : List ℕ} {a r : Acted} → j ≤ k → Did K j M s l a s′ l′ r tt
-    → Did K k (after M) s l a s′ l′ r false
+    → Did K k (after M) s l a s′ l′ r goesOn
 unfolding after
 goes-on-after {k = k} h d = most k (omega (arith, h)) (then d give)
 
 pub steps-after : {rs : List Region} {room top k : ℕ} {M : Act (Unit {0})} {s l s′ l′ order marks line : List ℕ} {a r : Acted} {n : ℕ}
-    → Steps (Known rs room top) k M s l a s′ l′ order marks line r n tt → Steps (Known rs room top) k (after M) s l a s′ l′ order marks line r n false
+    → Steps (Known rs room top) k M s l a s′ l′ order marks line r n tt → Steps (Known rs room top) k (after M) s l a s′ l′ order marks line r n goesOn
 unfolding after
 steps-after {k = k} d = steps-most k (omega arith) (steps-then refl d give)
 
 -- the operation of P
-pub of-p : {K : Rest → Type 0} {j : ℕ} (p k : ℕ) (x : Symbol) {s l s′ l′ : List ℕ} {a r : Acted} → p ≡ k → Did K j (operate k x) s l a s′ l′ r false
-    → Did K j (operate p x) s l a s′ l′ r false
+pub of-p : {K : Rest → Type 0} {j : ℕ} (p k : ℕ) (x : Symbol) {s l s′ l′ : List ℕ} {a r : Acted} → p ≡ k → Did K j (operate k x) s l a s′ l′ r goesOn
+    → Did K j (operate p x) s l a s′ l′ r goesOn
 of-p p k x h d = alike (ap (λ i. operate i x) (sym h)) d
 
 -- a test that holds, and one that does not
@@ -39,7 +39,7 @@ pub steps-yes : {A : Type 0} {K : Rest → Type 0} {k : ℕ} {m : Act A} {s l s�
     {b : Bool} → b ≡ true → Steps K k m s l a s′ l′ order marks line r len v → Steps K k (ifThen b m n) s l a s′ l′ order marks line r len v
 steps-yes n p d = steps-alike (if-yes n p) d
 
-pub steps-of-p : {K : Rest → Type 0} {j : ℕ} (p k : ℕ) (x : Symbol) {s l s′ l′ order marks line : List ℕ} {a r : Acted} {len : ℕ} {v : Bool} → p ≡ k
+pub steps-of-p : {K : Rest → Type 0} {j : ℕ} (p k : ℕ) (x : Symbol) {s l s′ l′ order marks line : List ℕ} {a r : Acted} {len : ℕ} {v : Control} → p ≡ k
     → Steps K j (operate k x) s l a s′ l′ order marks line r len v → Steps K j (operate p x) s l a s′ l′ order marks line r len v
 steps-of-p p k x h d = steps-alike (ap (λ i. operate i x) (sym h)) d
 

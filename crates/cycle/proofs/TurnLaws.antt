@@ -1,14 +1,16 @@
 -- A cycle as a whole: what was accepted stands in cells and lines, what was refused in neither.
 use Prim.Native.Nat.{ℕ, _+_, _-_, _*_, _<_, _≤_}
 use mathlib.Core.Path.{_≡_, refl, sym, ap, subst, _∙_}
-use mathlib.Core.List.{List, _++_}
+use mathlib.Core.List.{List, [], _++_}
 use native.Mathlib.Omega.{arith}
 use lib.ListN.{length, take, drop}
 use lib.Seq.{length-take-le}
 use Rattle.paper.specs.declared.Refusal.{Refusal}
-use Rattle.paper.specs.Cell.{Region, State, endOfRegions}
-use Rattle.paper.specs.Act.{Res, done, _>>_, ret, refuse}
+use Rattle.paper.specs.Limits.{firstDeck}
+use Rattle.paper.specs.Cell.{Region, endOfRegions}
+use Rattle.paper.specs.Act.{_>>_, ret, refuse}
 use Rattle.paper.specs.Cycle.{cycle}
+use Rattle.paper.specs.Run.{continues, joined, afterCycle}
 use Rattle.cells.specs.Pack.{AllFormed}
 use Rattle.cells.specs.Bridge.{Rest, stateOf}
 use Rattle.undo.specs.declared.Acted.{Acted}
@@ -22,10 +24,10 @@ use Rattle.cycle.specs.declared.Cycled.{Cycled}
 use Rattle.cycle.specs.declared.Cycled.the-variants.{Progress, Refused}
 use Rattle.cycle.specs.Turns.{stateAt, Came, Fits, Settles}
 
-module _ (rs : List Region) (top at : ℕ) (out : List ℕ) (ends : endOfRegions rs 221 ≡ top) (within : at ≤ length out) where
-  -- the rest of the state before the cycle
+module _ (rs : List Region) (top at : ℕ) (out : List ℕ) (ends : endOfRegions rs firstDeck ≡ top) (within : at ≤ length out) where
+  -- the rest of the state that a cycle sees: no line before its own
   abbrev rest : Rest
-  rest = record { regions = rs; lines = take at out; room = length out - at }
+  rest = record { regions = rs; lines = []; room = length out - at }
 
   known : Known rs (length out - at) top rest
   known = record { regions = refl; room = refl; ends = ends }
@@ -36,9 +38,9 @@ module _ (rs : List Region) (top at : ℕ) (out : List ℕ) (ends : endOfRegions
   line-fits (Undone e) k = tt
 
   -- the lines and the room afterwards
-  written : (s line out₂ : List ℕ) (len : ℕ) → Kept (Known rs (length out - at) top) line len Done → Copies out at (take len line) out₂ (at + len)
-      → stateOf (lined (take len line) rest) s ≡ stateAt rs s out₂ (at + len)
-  written s line out₂ len h w =
+  written : (s₀ s line out₂ : List ℕ) (len : ℕ) → Kept (Known rs (length out - at) top) line len Done → Copies out at (take len line) out₂ (at + len)
+      → joined (stateAt rs s₀ out at) (stateOf (lined (take len line) rest) s) ≡ stateAt rs s out₂ (at + len)
+  written s₀ s line out₂ len h w =
       let p : (length out - at) - length (take len line) ≡ length out₂ - (at + len) =
       omega (arith, length-take-le len line (omega (arith, h .sized, h .within)), w .writes .sized) in
       λ i. stateOf (record { regions = rs; lines = sym (w .writes .text) i; room = p i }) s
@@ -46,15 +48,16 @@ module _ (rs : List Region) (top at : ℕ) (out : List ℕ) (ends : endOfRegions
   module _ {k : ℕ} {s l s₁ l₁ order marks line : List ℕ} {len : ℕ} (s₂ out₂ : List ℕ) (r : Cycled) (fresh : used l ≡ 0) where
     pub came : (go : Acted) → Steps (Known rs (length out - at) top) k cycle s l Done s₁ l₁ order marks line go len tt
         → Settles go (at + len) l₁ (take len line) at s₁ out s₂ out₂ r → Came rs s out at s₂ out₂ r
-    unfolding left _>>_ ret refuse
+    unfolding left _>>_ ret refuse afterCycle
     came Done d (p, w, q) = subst (λ r. Came rs s out at s₂ out₂ r) (sym p) (
-      d .ran .is rest known .is ∙ ap (λ (t : State). done tt t) (written s₁ line out₂ len (d .kept) w ∙ ap (λ x. stateAt rs x out₂ (at + len)) (sym q)),
+      ap (afterCycle (stateAt rs s out at)) (d .ran .is rest known .is)
+          ∙ ap continues (written s s₁ line out₂ len (d .kept) w ∙ ap (λ x. stateAt rs x out₂ (at + len)) (sym q)),
       omega arith,
       line-fits Done (d .kept),
       w .past,
     )
     came (Undone e) d (p, q, o) = subst (λ r. Came rs s out at s₂ out₂ r) (sym p) (
-      d .ran .is rest known .is,
+      ap (afterCycle (stateAt rs s out at)) (d .ran .is rest known .is),
       q ∙ d .ran .back ∙ rewind-empty l s fresh,
       o,
     )

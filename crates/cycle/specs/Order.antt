@@ -3,7 +3,7 @@ use Prim.Native.Nat.{ℕ}
 use lib.Dec.{eqb}
 use Rattle.paper.specs.declared.Refusal.the-variants.{WrongKind}
 use Rattle.paper.specs.declared.Symbol.{Symbol}
-use Rattle.paper.specs.Cell.{Word, regional, wordIn, isInteger, isProcess}
+use Rattle.paper.specs.Cell.{Word, regional, wordIn, isTerm, isProcess}
 use Rattle.paper.specs.Act.{Act, _>>=_, _>>_, ret, refuseIf, ifThen, touch, notOwn, designate}
 use Rattle.cycle.specs.declared.Fetched.{Fetched}
 
@@ -31,5 +31,5 @@ orderIn c w = do
 unfoldable pub fetch : ℕ → Act Order
 fetch c = do
   x ← touch c
-  refuseIf (isInteger x) (WrongKind c)
+  refuseIf (isTerm x) (WrongKind c)
   ifThen (isProcess x) (ret (order 0 (regional c) 0)) (orderIn c (wordIn x))

@@ -7,8 +7,8 @@ use lib.Dec.{eqb}
 use Rattle.paper.specs.declared.Symbol.{Symbol}
 use Rattle.paper.specs.Cell.{isProcess, J}
 use Rattle.paper.specs.Act.{Act, _>>=_, _>>_, ifThen, touch, notOwn}
-use Rattle.paper.specs.Process.{perform}
 use Rattle.paper.specs.Cycle.{Control, after, descend}
+use Rattle.ranges.specs.Effect.{effect}
 use Rattle.cells.specs.Pack.{AllFormed}
 use Rattle.cells.specs.Bridge.{Rest, stateOf, cellIn}
 use Rattle.undo.specs.Log.{used, rewindOf}
@@ -29,7 +29,7 @@ unfoldable pub atOnce : Symbol → Act Control
 atOnce x = do
   y ← touch (x .num)
   notOwn (x .num)
-  ifThen (isProcess y) (after (perform (x .num - J 0))) (descend x)
+  ifThen (isProcess y) (after (effect (x .num - J 0))) (descend x)
 
 -- as `Did`, where N is still to be done: M from the state before comes to N from the state after
 pub record Reaches {A : Type 0} (K : Rest → Type 0) (k : ℕ) (M N : Act A) (s l : List ℕ) (a : Acted) (s′ l′ : List ℕ) (r : Acted) : Type 0 where

@@ -1,25 +1,34 @@
 // One cycle: execute, operate, steps 2 and 3, and the refusal that undoes it. Line by line the blocks of paper/specs/Cycle.
 ghost use mathlib.Core.Path.{_≡_};
-ghost use mathlib.Core.Bool.{false};
-ghost use Prim.Native.Nat.{_+_, _-_, _*_, _<_, _≤_};
+ghost use Prim.Native.Nat.{_+_, _-_, _*_, _^_, _<_, _≤_};
 ghost use lib.ListN.{length, take};
-ghost use Rattle.paper.specs.Cell.{endOfRegions};
-ghost use Rattle.paper.specs.Cycle.{executes, operate, interpret, cycle};
+ghost use Rattle.paper.specs.Limits.{largestN, firstDeck, longestLine};
+ghost use Rattle.paper.specs.Cell.{J, endOfRegions};
+ghost use Rattle.paper.specs.Cycle.{goesOn, executes, operate, interpret, cycle};
 ghost use Rattle.cells.specs.Layout.{wordOf};
 ghost use Rattle.undo.specs.Log.{Room};
 ghost use Rattle.undo.specs.declared.Acted.the-variants.{Done};
 ghost use Rattle.undo.specs.Did.{Top, Reads, Did};
 ghost use Rattle.walk.specs.Walks.{Clean};
 ghost use Rattle.lines.specs.Ran.{Known, tableOf};
+ghost use Rattle.control.specs.Moves.{controlOf};
 ghost use Rattle.perform.specs.Steps.{Steps};
 ghost use Rattle.cycle.specs.Reaches.{isJ1, atOnce, Reaches};
 ghost use Rattle.cycle.specs.Order.{orderOf, orderIn, fetch};
 ghost use Rattle.cycle.specs.Turns.{Ready, Turns, Fits, Settles};
 use acts::GotSymbol;
+use lines::Counts;
+use lines::Letters;
+use lines::Line;
 use lines::Printed;
 use paper::Refusal;
 use paper::Symbol;
+use paper::limits;
 use undo::Acted;
+use walk::Marks;
+use walk::Order;
+
+const J1: u16 = limits::J0 + 1;
 
 // What an operation came to, whether control has moved, and the length of the line that it prints.
 pub struct Operated {
@@ -38,7 +47,7 @@ pub enum Cycled {
 fn is_j1(cells: &[u64], a: Acted, c: u16) -> bool
     ensures { λ r. ⌜ r ≡ isJ1 (now (cells .entry)) a c ⌝ }
 {
-    if c != 22 {
+    if c != J1 {
         return false;
     }
     match a {
@@ -49,7 +58,7 @@ fn is_j1(cells: &[u64], a: Acted, c: u16) -> bool
 
 // J1 after J1: the symbol that is executed in the end. Each J1 pops, so there are more turns than cells.
 fn past_j1(cells: &mut [u64], log: &mut [u64], a: Acted, top: u16, x: Symbol) -> GotSymbol
-    requires { ⌜ Room (now log) (3 * length (now cells) + 3) × (length (now cells) ≤ 16384) ⌝ }
+    requires { ⌜ Room (now log) (3 * length (now cells) + 3) × (length (now cells) ≤ largestN) ⌝ }
     ensures { λ r. ⌜ Reaches (Top top) (3 * length (now (cells .entry)) + 3) (executes x) (atOnce (r .x))
         (now (cells .entry)) (now (log .entry)) a (now (cells .exit)) (now (log .exit)) (r .go) ⌝ }
 {
@@ -57,7 +66,7 @@ fn past_j1(cells: &mut [u64], log: &mut [u64], a: Acted, top: u16, x: Symbol) ->
     let mut go = a;
     let mut y = x;
     while (0 < turns) & is_j1(cells, go, y.num) {
-        let w0 = acts::own(cells, 1);
+        let w0 = acts::own(cells, limits::H0);
         go = acts::pop(cells, log, go, top);
         y = cells::symbol(w0);
         turns -= 1;
@@ -68,28 +77,29 @@ fn past_j1(cells: &mut [u64], log: &mut [u64], a: Acted, top: u16, x: Symbol) ->
 
 // The number of the process in cell c; a cell before J0 has none.
 fn process_number(c: u16) -> u16
-    ensures { λ r. ⌜ r ≡ c - 21 ⌝ }
+    ensures { λ r. ⌜ (r ≡ c - J 0) × (J r < 2 ^ 16) ⌝ }
 {
-    if c < 21 { 0 } else { c - 21 }
+    if c < limits::J0 { 0 } else { c - limits::J0 }
 }
 
 // "a process is done at once; any other kind preserves H1 and puts S in it"
 fn execute(
     cells: &mut [u64],
     log: &mut [u64],
-    order: &mut [u16; 16384],
-    marks: &mut [u16; 16384],
-    line: &mut [u8; 32],
-    letters: &[u8; 23],
-    counts: &[u16; 23],
+    order: &mut Order,
+    marks: &mut Marks,
+    line: &mut Line,
+    letters: &Letters,
+    counts: &Counts,
     n: usize,
     top: u16,
     room: usize,
     x: Symbol,
 ) -> Operated
-    requires { ⌜ Clean (now cells) (now order) (now marks) × Room (now log) (6 * length (now cells) + 73) × (length (now line) ≡ 32) ⌝ }
+    requires { ⌜ Clean (now cells) (now order) (now marks) × Room (now log) (6 * length (now cells) + 73) × (length (now line) ≡ longestLine) ⌝ }
     ensures { λ r. ⌜ Steps (Known (tableOf (now (letters .entry)) (now (counts .entry)) n) room top) (6 * length (now (cells .entry)) + 73) (executes x)
-        (now (cells .entry)) (now (log .entry)) Done (now (cells .exit)) (now (log .exit)) (now (order .exit)) (now (marks .exit)) (now (line .exit)) (r .go) (r .len) (r .moved) ⌝ }
+        (now (cells .entry)) (now (log .entry)) Done
+        (now (cells .exit)) (now (log .exit)) (now (order .exit)) (now (marks .exit)) (now (line .exit)) (r .go) (r .len) (controlOf (r .moved)) ⌝ }
 {
     let g = past_j1(cells, log, Acted::Done, top, x);
     let y = g.x;
@@ -131,7 +141,7 @@ fn execute(
 // P 1 to 6.
 fn on_symbol(cells: &mut [u64], log: &mut [u64], top: u16, p: u8, x: Symbol) -> Acted
     requires { ⌜ Room (now log) 4 × (1 ≤ p) × (p ≤ 6) ⌝ }
-    ensures { λ r. ⌜ Did (Top top) 4 (operate p x) (now (cells .entry)) (now (log .entry)) Done (now (cells .exit)) (now (log .exit)) r false ⌝ }
+    ensures { λ r. ⌜ Did (Top top) 4 (operate p x) (now (cells .entry)) (now (log .entry)) Done (now (cells .exit)) (now (log .exit)) r goesOn ⌝ }
 {
     match p {
         1 => acts::push(cells, log, Acted::Done, x),
@@ -139,7 +149,7 @@ fn on_symbol(cells: &mut [u64], log: &mut [u64], top: u16, p: u8, x: Symbol) -> 
         3 => acts::restore(cells, log, Acted::Done, top, x.num),
         4 => acts::preserve(cells, log, Acted::Done, x.num),
         5 => {
-            acts::own_store(cells, log, Acted::Done, 1, x);
+            acts::own_store(cells, log, Acted::Done, limits::H0, x);
             Acted::Done
         }
         _ => control::copy_to(cells, log, Acted::Done, x.num),
@@ -150,20 +160,21 @@ fn on_symbol(cells: &mut [u64], log: &mut [u64], top: u16, p: u8, x: Symbol) -> 
 fn operate(
     cells: &mut [u64],
     log: &mut [u64],
-    order: &mut [u16; 16384],
-    marks: &mut [u16; 16384],
-    line: &mut [u8; 32],
-    letters: &[u8; 23],
-    counts: &[u16; 23],
+    order: &mut Order,
+    marks: &mut Marks,
+    line: &mut Line,
+    letters: &Letters,
+    counts: &Counts,
     n: usize,
     top: u16,
     room: usize,
     p: u8,
     x: Symbol,
 ) -> Operated
-    requires { ⌜ Clean (now cells) (now order) (now marks) × Room (now log) (6 * length (now cells) + 73) × (length (now line) ≡ 32) ⌝ }
+    requires { ⌜ Clean (now cells) (now order) (now marks) × Room (now log) (6 * length (now cells) + 73) × (length (now line) ≡ longestLine) ⌝ }
     ensures { λ r. ⌜ Steps (Known (tableOf (now (letters .entry)) (now (counts .entry)) n) room top) (6 * length (now (cells .entry)) + 73) (operate p x)
-        (now (cells .entry)) (now (log .entry)) Done (now (cells .exit)) (now (log .exit)) (now (order .exit)) (now (marks .exit)) (now (line .exit)) (r .go) (r .len) (r .moved) ⌝ }
+        (now (cells .entry)) (now (log .entry)) Done
+        (now (cells .exit)) (now (log .exit)) (now (order .exit)) (now (marks .exit)) (now (line .exit)) (r .go) (r .len) (controlOf (r .moved)) ⌝ }
 {
     match p {
         0 => execute(
@@ -235,7 +246,7 @@ fn fetch(cells: &[u64], a: Acted, top: u16, c: u16) -> Fetched
 {
     let t = acts::touch(cells, a, c);
     let b = t.go;
-    let go = undo::refuse_if(b, cells::is_integer(t.x), Refusal::WrongKind(c));
+    let go = undo::refuse_if(b, cells::is_term(t.x), Refusal::WrongKind(c));
     if cells::is_process(t.x) {
         let x = Symbol {
             tag: Symbol::REGIONAL,
@@ -255,20 +266,21 @@ fn fetch(cells: &[u64], a: Acted, top: u16, c: u16) -> Fetched
 fn interpret(
     cells: &mut [u64],
     log: &mut [u64],
-    order: &mut [u16; 16384],
-    marks: &mut [u16; 16384],
-    line: &mut [u8; 32],
-    letters: &[u8; 23],
-    counts: &[u16; 23],
+    order: &mut Order,
+    marks: &mut Marks,
+    line: &mut Line,
+    letters: &Letters,
+    counts: &Counts,
     n: usize,
     a: Acted,
     top: u16,
     room: usize,
     c: u16,
 ) -> Printed
-    requires { ⌜ Clean (now cells) (now order) (now marks) × Room (now log) (6 * length (now cells) + 74) × (length (now line) ≡ 32) ⌝ }
+    requires { ⌜ Clean (now cells) (now order) (now marks) × Room (now log) (6 * length (now cells) + 74) × (length (now line) ≡ longestLine) ⌝ }
     ensures { λ r. ⌜ Steps (Known (tableOf (now (letters .entry)) (now (counts .entry)) n) room top) (6 * length (now (cells .entry)) + 74) (interpret c)
-        (now (cells .entry)) (now (log .entry)) a (now (cells .exit)) (now (log .exit)) (now (order .exit)) (now (marks .exit)) (now (line .exit)) (r .go) (r .len) tt ⌝ }
+        (now (cells .entry)) (now (log .entry)) a
+        (now (cells .exit)) (now (log .exit)) (now (order .exit)) (now (marks .exit)) (now (line .exit)) (r .go) (r .len) tt ⌝ }
 {
     let f = fetch(cells, a, top, c);
     let go = f.go;
@@ -307,21 +319,22 @@ fn interpret(
 fn attempt(
     cells: &mut [u64],
     log: &mut [u64],
-    order: &mut [u16; 16384],
-    marks: &mut [u16; 16384],
-    line: &mut [u8; 32],
-    letters: &[u8; 23],
-    counts: &[u16; 23],
+    order: &mut Order,
+    marks: &mut Marks,
+    line: &mut Line,
+    letters: &Letters,
+    counts: &Counts,
     n: usize,
     a: Acted,
     top: u16,
     room: usize,
 ) -> Printed
-    requires { ⌜ Clean (now cells) (now order) (now marks) × Room (now log) (6 * length (now cells) + 74) × (length (now line) ≡ 32) ⌝ }
+    requires { ⌜ Clean (now cells) (now order) (now marks) × Room (now log) (6 * length (now cells) + 74) × (length (now line) ≡ longestLine) ⌝ }
     ensures { λ r. ⌜ Steps (Known (tableOf (now (letters .entry)) (now (counts .entry)) n) room top) (6 * length (now (cells .entry)) + 74) cycle
-        (now (cells .entry)) (now (log .entry)) a (now (cells .exit)) (now (log .exit)) (now (order .exit)) (now (marks .exit)) (now (line .exit)) (r .go) (r .len) tt ⌝ }
+        (now (cells .entry)) (now (log .entry)) a
+        (now (cells .exit)) (now (log .exit)) (now (order .exit)) (now (marks .exit)) (now (line .exit)) (r .go) (r .len) tt ⌝ }
 {
-    let h = acts::own(cells, 2);
+    let h = acts::own(cells, limits::H1);
     let c = (h / cells::SYMB % 65536) as u16;
     if c == 0 {
         let go = control::ascend(cells, log, a, top);
@@ -347,13 +360,13 @@ fn attempt(
 fn settle(
     cells: &mut [u64],
     log: &[u64],
-    line: &[u8; 32],
+    line: &Line,
     out: &mut [u8],
     at: usize,
     go: Acted,
     len: usize,
 ) -> Cycled
-    requires { ⌜ Room (now log) 0 × (length (now line) ≡ 32) × (len ≤ 32) × Fits go (at + len) (now out) ⌝ }
+    requires { ⌜ Room (now log) 0 × (length (now line) ≡ longestLine) × (len ≤ longestLine) × Fits go (at + len) (now out) ⌝ }
     ensures { λ r. ⌜ Settles go (at + len) (now (log .entry)) (take len (now (line .entry))) at
         (now (cells .entry)) (now (out .entry)) (now (cells .exit)) (now (out .exit)) r ⌝ }
 {
@@ -373,18 +386,18 @@ fn settle(
 pub fn cycle(
     cells: &mut [u64],
     log: &mut [u64],
-    order: &mut [u16; 16384],
-    marks: &mut [u16; 16384],
-    line: &mut [u8; 32],
-    letters: &[u8; 23],
-    counts: &[u16; 23],
+    order: &mut Order,
+    marks: &mut Marks,
+    line: &mut Line,
+    letters: &Letters,
+    counts: &Counts,
     n: usize,
     top: u16,
     out: &mut [u8],
     at: usize,
 ) -> Cycled
     requires { ⌜ Ready (now cells) (now log) (now order) (now marks) (now line) × (at ≤ length (now out))
-        × (endOfRegions (tableOf (now letters) (now counts) n) 221 ≡ top) ⌝ }
+        × (endOfRegions (tableOf (now letters) (now counts) n) firstDeck ≡ top) ⌝ }
     ensures { λ r. ⌜ Turns (tableOf (now (letters .entry)) (now (counts .entry)) n) (now (cells .entry)) (now (out .entry)) at
         (now (cells .exit)) (now (out .exit)) (now (log .exit)) (now (order .exit)) (now (marks .exit)) (now (line .exit)) r ⌝ }
 {

@@ -3,6 +3,7 @@
 use Prim.Native.Nat.{ℕ, zero, suc, _+_, _≤_}
 use mathlib.Core.Path.{_≡_, refl, sym, ap, subst, _∙_}
 use mathlib.Core.Bool.{Bool, true, false}
+use mathlib.Core.Logic.{_⊎_, ⊎-elim}
 use mathlib.Core.List.{List, [], _++_}
 use native.Mathlib.Omega.{arith}
 use lib.ListN.{length, drop, length-append, length-drop, length-map}
@@ -13,11 +14,16 @@ use Rattle.paper.specs.declared.Refusal.{Refusal}
 use Rattle.paper.specs.declared.RunAnswer.{RunAnswer}
 use Rattle.paper.specs.declared.RunAnswer.the-variants.{Finished, BadSize, BudgetSpent, NotSound, Refused}
 use Rattle.paper.specs.Cell.{State, sizeFits}
+use Rattle.paper.specs.declared.Refusal.the-variants.{CellZero, FreeCell, WrongKind, NotToBeFreed, NothingBelow, NoFreeCell, OwnCell}
+use Rattle.paper.specs.declared.Refusal.the-variants.{NotListed, OutOfRange, NoRoom, BadWalk}
+use Rattle.paper.specs.Limits.{largestBudget}
+use Rattle.paper.specs.Answer.{runNumber, refusalNumber}
 use Rattle.paper.specs.Act.{Res, done, refused}
 use Rattle.paper.specs.Cycle.{cycle}
 use Rattle.paper.specs.Sound.{sound}
-use Rattle.paper.specs.Run.{Turn, finishes, stops, continues, isFinished, Outcome, outcome, afterCycle, turn, onTurn, runFrom}
-use Rattle.paper.proofs.SoundStore.{Sound, and-true, never}
+use Rattle.paper.specs.Run.{Turn, finishes, stops, continues, isFinished, Outcome, outcome, alone, afterCycle, turn, onTurn, runFrom}
+use Rattle.cycle.specs.Turns.{cycled}
+use Rattle.paper.proofs.SoundStore.{Sound, and-true}
 use Rattle.paper.proofs.SoundTest.{Tested, sound-from, sound-passes}
 use Rattle.paper.proofs.CycleLaws.{run-sound}
 use Rattle.paper.proofs.Demand1.{Runnable, FreeListed, free-listed}
@@ -32,24 +38,37 @@ use Rattle.machine.specs.declared.Ran.{Ran}
 use Rattle.machine.specs.Numbers.{Numbers, numbers, untouched, inNumbers, cyclesOn, runOn}
 use Rattle.machine.proofs.RunLaws.{run-spent, run-turns, run-size, run-unsound, run-over, run-cycles}
 
--- 1 and 20, which come before any cycle
-abbrev pub isBefore : RunAnswer → Bool
-isBefore a = elim a [ Finished ↦ false | BadSize ↦ true | BudgetSpent ↦ false | NotSound ↦ true | Refused e ↦ false ]
+-- 1 and 20 come before any cycle; a refused cycle is answered from 21 on
+abbrev pub Before : RunAnswer → Type 0
+Before a = (runNumber a ≡ 1) ⊎ (runNumber a ≡ 20)
+
+refusal-from : (e : Refusal) → 21 ≤ refusalNumber e
+refusal-from CellZero = omega arith
+refusal-from (FreeCell c) = omega arith
+refusal-from (WrongKind c) = omega arith
+refusal-from (NotToBeFreed c) = omega arith
+refusal-from (NothingBelow c) = omega arith
+refusal-from NoFreeCell = omega arith
+refusal-from (OwnCell c) = omega arith
+refusal-from (NotListed c) = omega arith
+refusal-from (OutOfRange c) = omega arith
+refusal-from NoRoom = omega arith
+refusal-from (BadWalk c) = omega arith
 
 -- the cycles answer otherwise
-cycles-answer : (left n : ℕ) (t : State) → isBefore (runFrom left n t .answer) ≡ false
+cycles-answer : (left n : ℕ) (t : State) → Before (runFrom left n t .answer) → ⊥
 unfolding runFrom onTurn
 cycles-answer zero n t = go (isFinished t) refl
   where
-    go : (b : Bool) → isFinished t ≡ b → isBefore (runFrom zero n t .answer) ≡ false
-    go true e = rw e
-    go false e = rw e
+    go : (b : Bool) → isFinished t ≡ b → Before (runFrom zero n t .answer) → ⊥
+    go true e = rw e (⊎-elim (λ p. omega arith) (λ p. omega arith))
+    go false e = rw e (⊎-elim (λ p. omega arith) (λ p. omega arith))
 cycles-answer (suc left) n t = go (turn t) (λ u. cycles-answer left (suc n) u)
   where
-    go : (x : Turn) → ((u : State) → isBefore (runFrom left (suc n) u .answer) ≡ false)
-        → isBefore (onTurn x (outcome Finished n t) (λ r. outcome (Refused r) n t) (λ u. runFrom left (suc n) u) .answer) ≡ false
-    go finishes k = refl
-    go (stops e) k = refl
+    go : (x : Turn) → ((u : State) → Before (runFrom left (suc n) u .answer) → ⊥)
+        → Before (onTurn x (outcome Finished n t) (λ r. outcome (Refused r) n t) (λ u. runFrom left (suc n) u) .answer) → ⊥
+    go finishes k = ⊎-elim (λ p. omega arith) (λ p. omega arith)
+    go (stops e) k = ⊎-elim (λ p. omega (arith, refusal-from e)) (λ p. omega (arith, refusal-from e))
     go (continues u) k = k u
 
 -- and are no more than the budget
@@ -64,27 +83,34 @@ cycles-within (suc left) n t = go (turn t) (λ u. cycles-within left (suc n) u)
     go (stops e) k = omega arith
     go (continues u) k = omega (arith, k u)
 
+-- a cycle does not finish a run
+goes-on : (t : State) → cycled t ≡ finishes → ⊥
+unfolding afterCycle
+goes-on t q = go (cycle (alone t)) q
+  where
+    go : (x : Res State Refusal (Unit {0})) → afterCycle t x ≡ finishes → ⊥
+    go (done u v) e = let z : _≡_ {A = ℕ} 0 1 = cc in omega arith
+    go (refused e) p = let z : _≡_ {A = ℕ} 0 1 = cc in omega arith
+
 -- What a refusal leaves is what the cycles before it left: as many as the answer says, given as the budget, end there.
 record Cut (left n : ℕ) (t : State) : Type 0 where
   done : ℕ
   cycles : runFrom left n t .cycles ≡ n + done
   before : runFrom done n t ≡ outcome BudgetSpent (n + done) (runFrom left n t .state)
 
-isRefused : RunAnswer → Bool
-isRefused a = elim a [ Finished ↦ false | BadSize ↦ false | BudgetSpent ↦ false | NotSound ↦ false | Refused e ↦ true ]
-
-cut : (left n : ℕ) (t : State) → isRefused (runFrom left n t .answer) ≡ true → Cut left n t
-unfolding runFrom turn onTurn afterCycle isRefused
+cut : (left n : ℕ) (t : State) → 21 ≤ runNumber (runFrom left n t .answer) → Cut left n t
+unfolding runFrom turn onTurn
 cut zero n t h = go (isFinished t) refl
   where
     go : (b : Bool) → isFinished t ≡ b → Cut zero n t
-    go true e = never (isRefused (runFrom zero n t .answer)) h (rw e)
-    go false e = never (isRefused (runFrom zero n t .answer)) h (rw e)
+    go true e = let k : 21 ≤ 0 = rw e at h in absurd (omega arith)
+    go false e = let k : 21 ≤ 10 = rw e at h in absurd (omega arith)
 cut (suc left) n t h = byFinish (isFinished t) refl (λ u. cut left (suc n) u)
   where
-    byCycle : isFinished t ≡ false → (x : Res State Refusal (Unit {0})) → cycle t ≡ x
-        → ((u : State) → isRefused (runFrom left (suc n) u .answer) ≡ true → Cut left (suc n) u) → Cut (suc left) n t
-    byCycle p (refused e) q k =
+    byCycle : isFinished t ≡ false → (x : Turn) → cycled t ≡ x
+        → ((u : State) → 21 ≤ runNumber (runFrom left (suc n) u .answer) → Cut left (suc n) u) → Cut (suc left) n t
+    byCycle p finishes q k = absurd (goes-on t q)
+    byCycle p (stops e) q k =
         let stop : runFrom (suc left) n t ≡ outcome (Refused e) n t = rw (p, turn, q) in
         let m : n ≡ n + 0 = omega arith in
         record {
@@ -92,9 +118,9 @@ cut (suc left) n t h = byFinish (isFinished t) refl (λ u. cut left (suc n) u)
           cycles = ap (λ (o : Outcome). o .cycles) stop ∙ m;
           before = run-spent t n p ∙ (λ i. outcome BudgetSpent (m i) (sym stop i .state));
         }
-    byCycle p (done a u) q k =
+    byCycle p (continues u) q k =
         let next = run-turns t n p u q left in
-        let c = k u (ap (λ (o : Outcome). isRefused (o .answer)) (sym next) ∙ h) in
+        let c = k u (subst (λ (o : Outcome). 21 ≤ runNumber (o .answer)) next h) in
         let m : suc n + c .done ≡ n + suc (c .done) = omega arith in
         record {
           done = suc (c .done);
@@ -102,9 +128,10 @@ cut (suc left) n t h = byFinish (isFinished t) refl (λ u. cut left (suc n) u)
           before = run-turns t n p u q (c .done) ∙ c .before ∙ (λ i. outcome BudgetSpent (m i) (sym next i .state));
         }
 
-    byFinish : (b : Bool) → isFinished t ≡ b → ((u : State) → isRefused (runFrom left (suc n) u .answer) ≡ true → Cut left (suc n) u) → Cut (suc left) n t
-    byFinish true p k = never (isRefused (runFrom (suc left) n t .answer)) h (rw (p, turn))
-    byFinish false p k = byCycle p (cycle t) refl k
+    byFinish : (b : Bool) → isFinished t ≡ b → ((u : State) → 21 ≤ runNumber (runFrom left (suc n) u .answer) → Cut left (suc n) u)
+        → Cut (suc left) n t
+    byFinish true p k = let z : 21 ≤ 0 = rw (p, turn) at h in absurd (omega arith)
+    byFinish false p k = byCycle p (cycled t) refl k
 
 -- a store that passed the test
 module _ (regions : Regions) (s : List ℕ) (size : sizeFits (length s) ≡ true) (passes : storeSound regions s ≡ true) where
@@ -147,18 +174,18 @@ module _ (regions : Regions) (s : List ℕ) (size : sizeFits (length s) ≡ true
 data Way (regions : Regions) (budget : ℕ) (s out : List ℕ) : Type 0 where
   small : untouched BadSize s out ≡ runOn regions budget s out → Way regions budget s out
   unsound : untouched NotSound s out ≡ runOn regions budget s out → Way regions budget s out
-  cycled : sizeFits (length s) ≡ true → storeSound regions s ≡ true → budget ≤ 1000000
+  ran : sizeFits (length s) ≡ true → storeSound regions s ≡ true → budget ≤ largestBudget
       → cyclesOn (regionsOf regions) budget s out ≡ runOn regions budget s out → Way regions budget s out
 
 way : (regions : Regions) (budget : ℕ) (s out : List ℕ) → Way regions budget s out
 way regions budget s out = bySize (sizeFits (length s)) refl
   where
-    byBudget : sizeFits (length s) ≡ true → storeSound regions s ≡ true → (b : Bool) → leb budget 1000000 ≡ b → Way regions budget s out
-    byBudget size f true h = let k = leb-true budget 1000000 h in cycled size f k (run-cycles regions budget s out size k f)
-    byBudget size f false h = unsound (run-over regions budget s out size (leb-false budget 1000000 h))
+    byBudget : sizeFits (length s) ≡ true → storeSound regions s ≡ true → (b : Bool) → leb budget largestBudget ≡ b → Way regions budget s out
+    byBudget size f true h = let k = leb-true budget largestBudget h in ran size f k (run-cycles regions budget s out size k f)
+    byBudget size f false h = unsound (run-over regions budget s out size (leb-false budget largestBudget h))
 
     bySound : sizeFits (length s) ≡ true → (b : Bool) → storeSound regions s ≡ b → Way regions budget s out
-    bySound size true f = byBudget size f (leb budget 1000000) refl
+    bySound size true f = byBudget size f (leb budget largestBudget) refl
     bySound size false f = unsound (run-unsound regions budget s out size f)
 
     bySize : (b : Bool) → sizeFits (length s) ≡ b → Way regions budget s out
@@ -201,7 +228,7 @@ module _ (regions : Regions) (budget : ℕ) (s out : List ℕ) {r : Ran} {s′ o
       go : Way regions budget s out → storeSound regions s′ ≡ true
       go (small e) = ap (storeSound regions) (cells-are e) ∙ h
       go (unsound e) = ap (storeSound regions) (cells-are e) ∙ h
-      go (cycled size f k e) = ap (storeSound regions) (cells-are e) ∙ passes-after regions s size f budget out
+      go (ran size f k e) = ap (storeSound regions) (cells-are e) ∙ passes-after regions s size f budget out
 
   -- as many cells as before
   pub run-keeps-size : length s′ ≡ length s
@@ -210,7 +237,7 @@ module _ (regions : Regions) (budget : ℕ) (s out : List ℕ) {r : Ran} {s′ o
       go : Way regions budget s out → length s′ ≡ length s
       go (small e) = ap length (cells-are e)
       go (unsound e) = ap length (cells-are e)
-      go (cycled size f k e) = ap length (cells-are e) ∙ size-after regions s size f budget out
+      go (ran size f k e) = ap length (cells-are e) ∙ size-after regions s size f budget out
 
   -- "the free cells are exactly those on the H2 list, each once": `FreeListed` of paper/proofs/Demand1
   pub run-lists-free : sizeFits (length s) ≡ true → storeSound regions s ≡ true → FreeListed (stateWith regions s′ [] 0)
@@ -218,13 +245,13 @@ module _ (regions : Regions) (budget : ℕ) (s out : List ℕ) {r : Ran} {s′ o
       free-listed (stateWith regions s′ [] 0) (runnable regions s′ (ap sizeFits run-keeps-size ∙ size) (run-keeps-sound passes) [] 0)
 
   -- 1 and 20: "untouched"
-  pub run-untouched : isBefore (r .answer) ≡ true → (s′ ≡ s) × (out′ ≡ out) × (r .cycles ≡ 0) × (r .len ≡ 0)
+  pub run-untouched : Before (r .answer) → (s′ ≡ s) × (out′ ≡ out) × (r .cycles ≡ 0) × (r .len ≡ 0)
   run-untouched h = go (way regions budget s out)
     where
       go : Way regions budget s out → (s′ ≡ s) × (out′ ≡ out) × (r .cycles ≡ 0) × (r .len ≡ 0)
       go (small e) = (cells-are e, out-is e, cycles-are e, len-is e)
       go (unsound e) = (cells-are e, out-is e, cycles-are e, len-is e)
-      go (cycled size f k e) = never (isBefore (r .answer)) h (ap isBefore (answer-is e) ∙ cycles-answer budget 0 (given regions s size f budget out))
+      go (ran size f k e) = absurd (cycles-answer budget 0 (given regions s size f budget out) (subst Before (answer-is e) h))
 
   -- the lines are the first bytes of the room; "output bytes past the lines keep what they held"
   pub run-keeps-past : (drop (r .len) out′ ≡ drop (r .len) out) × (r .len ≤ length out) × (length out′ ≡ length out)
@@ -236,7 +263,7 @@ module _ (regions : Regions) (budget : ℕ) (s out : List ℕ) {r : Ran} {s′ o
       go : Way regions budget s out → (drop (r .len) out′ ≡ drop (r .len) out) × (r .len ≤ length out) × (length out′ ≡ length out)
       go (small e) = same (out-is e) (len-is e)
       go (unsound e) = same (out-is e) (len-is e)
-      go (cycled size f k e) =
+      go (ran size f k e) =
           let t = after regions s size f budget out .lines in
           let h : length t ≤ length out = lines-within regions s size f budget out in (
             rw (len-is e, out-is e) (drop-append-seam t (drop (length t) out)),
@@ -251,27 +278,27 @@ module _ (regions : Regions) (budget : ℕ) (s out : List ℕ) {r : Ran} {s′ o
       go : Way regions budget s out → r .cycles ≤ budget
       go (small e) = omega (arith, cycles-are e)
       go (unsound e) = omega (arith, cycles-are e)
-      go (cycled size f k e) = omega (arith, cycles-are e, cycles-within budget 0 (given regions s size f budget out))
+      go (ran size f k e) = omega (arith, cycles-are e, cycles-within budget 0 (given regions s size f budget out))
 
-  -- "A refused cycle leaves cells and printed lines as it found them": cells and bytes are those that the cycles before it leave
-  pub refusal-leaves : (e : Refusal) → r .answer ≡ Refused e
+  -- "Run answers from 21 leave the store and lines before that cycle": cells and bytes are those that the cycles before it leave
+  pub refusal-leaves : 21 ≤ runNumber (r .answer)
       → numbers (record { answer = BudgetSpent; cycles = r .cycles; len = r .len }) s′ out′ ≡ runOn regions (r .cycles) s out
-  unfolding isRefused
-  refusal-leaves e h = go (way regions budget s out)
+  refusal-leaves h = go (way regions budget s out)
     where
-      told : isRefused (r .answer) ≡ true
-      told = ap isRefused h
+      told : {a : RunAnswer} → r .answer ≡ a → 21 ≤ runNumber a
+      told e = subst (λ (a : RunAnswer). 21 ≤ runNumber a) e h
 
-      go : Way regions budget s out → numbers (record { answer = BudgetSpent; cycles = r .cycles; len = r .len }) s′ out′ ≡ runOn regions (r .cycles) s out
-      go (small w) = never (isRefused (r .answer)) told (ap isRefused (answer-is w))
-      go (unsound w) = never (isRefused (r .answer)) told (ap isRefused (answer-is w))
-      go (cycled size f k w) =
+      go : Way regions budget s out
+          → numbers (record { answer = BudgetSpent; cycles = r .cycles; len = r .len }) s′ out′ ≡ runOn regions (r .cycles) s out
+      go (small w) = let z = told (answer-is w) in absurd (omega arith)
+      go (unsound w) = let z = told (answer-is w) in absurd (omega arith)
+      go (ran size f k w) =
           let t = given regions s size f budget out in
-          let c = cut budget 0 t (ap isRefused (sym (answer-is w)) ∙ told) in
+          let c = cut budget 0 t (told (answer-is w)) in
           let m : c .done ≡ r .cycles = omega (arith, c .cycles, cycles-are w) in
           let z : 0 + c .done ≡ r .cycles = omega (arith, m) in
           let same : runFrom (r .cycles) 0 t ≡ outcome BudgetSpent (r .cycles) (runFrom budget 0 t .state) =
           ap (λ i. runFrom i 0 t) (sym m) ∙ c .before ∙ ap (λ i. outcome BudgetSpent i (runFrom budget 0 t .state)) z in
-          let few : r .cycles ≤ 1000000 = omega (arith, cycles-are w, cycles-within budget 0 t, k) in
+          let few : r .cycles ≤ largestBudget = omega (arith, cycles-are w, cycles-within budget 0 t, k) in
           (λ i. record { answer = BudgetSpent; cycles = r .cycles; len = len-is w i; cells = cells-are w i; out = out-is w i })
           ∙ ap (inNumbers out) (sym same) ∙ run-cycles regions (r .cycles) s out size few f

@@ -12,10 +12,9 @@ use lib.Seq.{length-take-le, drop-drop}
 use Rattle.paper.specs.declared.Refusal.{Refusal}
 use Rattle.paper.specs.declared.RunAnswer.{RunAnswer}
 use Rattle.paper.specs.declared.RunAnswer.the-variants.{Finished, BadSize, BudgetSpent, NotSound, Refused}
+use Rattle.paper.specs.Limits.{largestBudget}
 use Rattle.paper.specs.Cell.{Region, State, sizeFits}
-use Rattle.paper.specs.Act.{done, refused}
-use Rattle.paper.specs.Cycle.{cycle}
-use Rattle.paper.specs.Run.{isFinished, outcome, afterCycle, turn, onTurn, runFrom, run}
+use Rattle.paper.specs.Run.{stops, continues, isFinished, outcome, turn, onTurn, runFrom, run}
 use Rattle.paper.specs.Sound.{sound}
 use Rattle.paper.proofs.SoundStore.{and-true}
 use Rattle.cells.specs.Pack.{AllFormed}
@@ -25,7 +24,7 @@ use Rattle.sound.specs.declared.Regions.{Regions}
 use Rattle.sound.specs.Table.{regionsOf}
 use Rattle.sound.specs.Store.{stateWith, storeSound}
 use Rattle.sound.proofs.SoundLaws.{passed-formed, passed-sound}
-use Rattle.cycle.specs.Turns.{stateAt}
+use Rattle.cycle.specs.Turns.{stateAt, cycled}
 use Rattle.machine.specs.declared.Ran.{Ran}
 use Rattle.machine.specs.Numbers.{numbers, untouched, inNumbers, cyclesOn, runOn}
 
@@ -40,21 +39,21 @@ module _ (t : State) (n : ℕ) where
   unfolding runFrom
   run-spent p = rw p
 
-  pub run-turns : isFinished t ≡ false → (u : State) → cycle t ≡ done tt u → (left : ℕ) → runFrom (suc left) n t ≡ runFrom left (suc n) u
-  unfolding runFrom turn onTurn afterCycle
+  pub run-turns : isFinished t ≡ false → (u : State) → cycled t ≡ continues u → (left : ℕ) → runFrom (suc left) n t ≡ runFrom left (suc n) u
+  unfolding runFrom turn onTurn
   run-turns p u q left = rw (p, turn, q)
 
   -- a cycle, while some of the budget is left
   module _ (budget : ℕ) (more : n < budget) (p : isFinished t ≡ false) where
-    pub run-stops : (e : Refusal) → cycle t ≡ refused e → runFrom (budget - n) n t ≡ outcome (Refused e) n t
-    unfolding runFrom turn onTurn afterCycle
+    pub run-stops : (e : Refusal) → cycled t ≡ stops e → runFrom (budget - n) n t ≡ outcome (Refused e) n t
+    unfolding runFrom turn onTurn
     run-stops e q = go (budget - n) (omega (arith, more))
       where
         go : (k : ℕ) → 0 < k → runFrom k n t ≡ outcome (Refused e) n t
         go zero h = absurd (omega (arith, h))
         go (suc k) h = rw (p, turn, q)
 
-    pub run-goes : (u : State) → cycle t ≡ done tt u → runFrom (budget - n) n t ≡ runFrom (budget - (n + 1)) (n + 1) u
+    pub run-goes : (u : State) → cycled t ≡ continues u → runFrom (budget - n) n t ≡ runFrom (budget - (n + 1)) (n + 1) u
     run-goes u q =
         let left : budget - n ≡ suc (budget - (n + 1)) = omega (arith, more) in
         let next : suc n ≡ n + 1 = omega arith in
@@ -116,19 +115,19 @@ module _ (r : Regions) (budget : ℕ) (s out : List ℕ) where
     abbrev st : State
     st = stateWith r s [] (length out)
 
-    says-not : (sound st && leb budget 1000000) ≡ false → run budget st ≡ outcome NotSound 0 st
+    says-not : (sound st && leb budget largestBudget) ≡ false → run budget st ≡ outcome NotSound 0 st
     unfolding run
     says-not e = rw (sized, e, run)
 
-    says-goes : (sound st && leb budget 1000000) ≡ true → run budget st ≡ runFrom budget 0 st
+    says-goes : (sound st && leb budget largestBudget) ≡ true → run budget st ≡ runFrom budget 0 st
     unfolding run
     says-goes e = rw (sized, e, run)
 
-    pub run-over : 1000000 < budget → untouched NotSound s out ≡ runOn r budget s out
+    pub run-over : largestBudget < budget → untouched NotSound s out ≡ runOn r budget s out
     run-over h = go (storeSound r s) refl
       where
-        no : (b : Bool) → (b && leb budget 1000000) ≡ false
-        no true = lt-leb budget 1000000 h
+        no : (b : Bool) → (b && leb budget largestBudget) ≡ false
+        no true = lt-leb budget largestBudget h
         no false = refl
 
         go : (b : Bool) → storeSound r s ≡ b → untouched NotSound s out ≡ runOn r budget s out
@@ -137,5 +136,5 @@ module _ (r : Regions) (budget : ℕ) (s out : List ℕ) where
             ap (λ x. untouched NotSound x out) (sym (packed-unpacked s (passed-formed r s f)))
             ∙ ap (inNumbers out) (sym (says-not (no (sound st)))) ∙ passes f
 
-    pub run-cycles : budget ≤ 1000000 → storeSound r s ≡ true → cyclesOn (regionsOf r) budget s out ≡ runOn r budget s out
-    run-cycles h f = ap (inNumbers out) (sym (says-goes (rw (passed-sound r s [] (length out) f) (le-leb budget 1000000 h)))) ∙ passes f
+    pub run-cycles : budget ≤ largestBudget → storeSound r s ≡ true → cyclesOn (regionsOf r) budget s out ≡ runOn r budget s out
+    run-cycles h f = ap (inNumbers out) (sym (says-goes (rw (passed-sound r s [] (length out) f) (le-leb budget largestBudget h)))) ∙ passes f

@@ -2,14 +2,24 @@
 ghost use mathlib.Core.Path.{_≡_};
 ghost use Prim.Native.Nat.{_≤_};
 ghost use lib.ListN.{length};
+ghost use Rattle.paper.specs.Limits.{firstDeck};
 ghost use Rattle.paper.specs.Cell.{endOfRegions};
 ghost use Rattle.cells.specs.Pack.{AllFormed};
 ghost use Rattle.lines.specs.Ran.{tableOf};
 ghost use Rattle.cycle.specs.Turns.{Ready};
 ghost use Rattle.machine.specs.Numbers.{numbers, isFinishedIn, cyclesOn, runOn};
 use cycle::Cycled;
+use lines::Counts;
+use lines::Letters;
+use lines::Line;
 use paper::RunAnswer;
+use paper::limits;
 use sound::Regions;
+use walk::Marks;
+use walk::Order;
+
+// A cycle makes at most six writes a cell and 74 more; the log takes two numbers a write, and one to count them.
+const LOG: usize = 2 * (6 * limits::LARGEST_N + 74) + 1;
 
 // The answer of a run, the cycles done, and how many bytes its lines have.
 pub struct Ran {
@@ -32,7 +42,7 @@ fn came_to(answer: RunAnswer, cycles: u32, len: usize) -> Ran
 fn finished(cells: &[u64]) -> bool
     ensures { λ r. ⌜ r ≡ isFinishedIn (now (cells .entry)) ⌝ }
 {
-    let h = cells::word_in(cells::peek(cells, 2));
+    let h = cells::word_in(cells::peek(cells, limits::H1));
     (h / cells::SYMB % 65536 == 0) & (h % 65536 == 0)
 }
 
@@ -40,18 +50,18 @@ fn finished(cells: &[u64]) -> bool
 fn cycles(
     cells: &mut [u64],
     log: &mut [u64],
-    order: &mut [u16; 16384],
-    marks: &mut [u16; 16384],
-    line: &mut [u8; 32],
-    letters: &[u8; 23],
-    counts: &[u16; 23],
+    order: &mut Order,
+    marks: &mut Marks,
+    line: &mut Line,
+    letters: &Letters,
+    counts: &Counts,
     n: usize,
     top: u16,
     budget: u32,
     out: &mut [u8],
 ) -> Ran
     requires { ⌜ Ready (now cells) (now log) (now order) (now marks) (now line) × AllFormed (now cells)
-        × (endOfRegions (tableOf (now letters) (now counts) n) 221 ≡ top) ⌝ }
+        × (endOfRegions (tableOf (now letters) (now counts) n) firstDeck ≡ top) ⌝ }
     ensures { λ r. ⌜ numbers r (now (cells .exit)) (now (out .exit))
         ≡ cyclesOn (tableOf (now (letters .entry)) (now (counts .entry)) n) budget (now (cells .entry)) (now (out .entry)) ⌝ }
 {
@@ -92,7 +102,7 @@ pub fn run(cells: &mut [u64], regions: Regions, budget: u32, out: &mut [u8]) -> 
     if !sound::size_fits(cells.len()) {
         return came_to(RunAnswer::BadSize, 0, 0);
     }
-    if budget > 1000000 {
+    if budget > limits::LARGEST_BUDGET {
         return came_to(RunAnswer::NotSound, 0, 0);
     }
     if !sound::sound(cells, regions) {
@@ -101,10 +111,10 @@ pub fn run(cells: &mut [u64], regions: Regions, budget: u32, out: &mut [u8]) -> 
     let top = regions.top() as u16;
     let letters = regions.letters;
     let counts = regions.counts;
-    let mut log = [0u64; 196757];
-    let mut order = [0u16; 16384];
-    let mut marks = [0u16; 16384];
-    let mut line = [0u8; 32];
+    let mut log = [0u64; LOG];
+    let mut order = [0u16; limits::LARGEST_N];
+    let mut marks = [0u16; limits::LARGEST_N];
+    let mut line = [0u8; limits::LONGEST_LINE];
     cycles(
         cells,
         &mut log,

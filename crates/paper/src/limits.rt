@@ -23,7 +23,7 @@ pub const LARGEST_Q: u8 = 2;
 pub const DEEPEST: usize = 64;
 
 // "budget over 1,000,000" is refused.
-pub const LARGEST_BUDGET: u64 = 1000000;
+pub const LARGEST_BUDGET: u32 = 1000000;
 
 // The letters of deck regions: all but H, W and J.
 pub const MANY_REGIONS: usize = 23;

@@ -5,14 +5,17 @@ use mathlib.Core.List.{List}
 use mathlib.Core.Option.{some}
 use native.Mathlib.Omega.{arith}
 use lib.ListN.{length, take}
+use Rattle.paper.specs.Limits.{firstDeck, longestLine}
 use Rattle.paper.specs.Cell.{Region, endOfRegions}
 use Rattle.paper.specs.Act.{Act, _>>=_, _>>_}
-use Rattle.paper.specs.Process.{one, listed, perform}
+use Rattle.paper.specs.Process.{one, listed}
 use Rattle.cells.specs.Bridge.{Rest}
 use Rattle.undo.specs.declared.Acted.{Acted}
 use Rattle.undo.specs.Did.{Judged, Sees, Reads, Top, Did}
 use Rattle.undo.proofs.Lines.{under}
-use Rattle.ranges.proofs.Listed.{entryFor, entry-does}
+use Rattle.ranges.specs.Effect.{effect}
+use Rattle.ranges.proofs.Listed.{entryFor}
+use Rattle.ranges.proofs.PerformLaws.{one-effect}
 use Rattle.walk.specs.Walks.{Clean}
 use Rattle.lines.specs.Ran.{Known}
 use Rattle.lines.proofs.RanLaws.{no-line, ran-most, ran-alike, ran-test, ran-sees, ran-reads, then-did, bind-did, known-top, kept-none, kept-then}
@@ -23,10 +26,10 @@ pub clean-on : {s s′ order marks : List ℕ} → length s′ ≡ length s → 
 clean-on e c = record { small = rw e (c .small); sized = c .sized; unmarked = c .unmarked }
 
 pub tops : {rs : List Region} {room top : ℕ} (e : Rest) → Known rs room top e → Top top e
-tops e k = ap (λ (r : List Region). endOfRegions r 221) (k .regions) ∙ k .ends
+tops e k = ap (λ (r : List Region). endOfRegions r firstDeck) (k .regions) ∙ k .ends
 
 -- what prints nothing
-pub quietly : {A : Type 0} {rs : List Region} {room top k : ℕ} {M : Act A} {s l s′ l′ order marks line : List ℕ} {a r : Acted} {v : A} → length line ≡ 32
+pub quietly : {A : Type 0} {rs : List Region} {room top k : ℕ} {M : Act A} {s l s′ l′ order marks line : List ℕ} {a r : Acted} {v : A} → length line ≡ longestLine
     → Clean s′ order marks → Did (Top top) k M s l a s′ l′ r v → Steps (Known rs room top) k M s l a s′ l′ order marks line r 0 v
 quietly e c d = record { ran = no-line (under tops d); kept = kept-none e; clean = c }
 
@@ -73,6 +76,5 @@ module _ {A B : Type 0} {rs : List Region} {room top k j : ℕ} {s l s₁ l₁ s
 -- a process by its number
 module _ {K : Rest → Type 0} {s l s′ l′ order marks line : List ℕ} {a r : Acted} {len : ℕ} where
   pub steps-numbered : (m i : ℕ) {M : Act (Unit {0})} {k n : ℕ} → entryFor listed m m ≡ some (one m M) → n ≡ m → k ≤ i
-      → Steps K k M s l a s′ l′ order marks line r len tt → Steps K i (perform n) s l a s′ l′ order marks line r len tt
-  unfolding perform
-  steps-numbered m i {M} {n = n} h e b d = steps-most i b (steps-alike (entry-does listed (one m M) m m n h (omega arith) (omega arith)) d)
+      → Steps K k M s l a s′ l′ order marks line r len tt → Steps K i (effect n) s l a s′ l′ order marks line r len tt
+  steps-numbered m i h e b d = steps-most i b (steps-alike (one-effect m h e) d)

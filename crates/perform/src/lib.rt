@@ -1,29 +1,36 @@
-// The cycle: processes by number, execute, operate, and steps 2 and 3. Line by line the blocks of paper/specs/Cycle.
+// Every process by its number. J1 only pops here: the cycle executes what was popped.
 ghost use mathlib.Core.Path.{_≡_};
-ghost use Prim.Native.Nat.{_+_, _*_, _≤_};
+ghost use Prim.Native.Nat.{_+_, _*_, _^_, _<_, _≤_};
 ghost use lib.ListN.{length};
-ghost use Rattle.paper.specs.Process.{perform};
+ghost use Rattle.paper.specs.Limits.{longestLine};
+ghost use Rattle.paper.specs.Cell.{J};
 ghost use Rattle.undo.specs.Log.{Room};
 ghost use Rattle.undo.specs.Did.{Top, Did};
 ghost use Rattle.walk.specs.Walks.{Clean};
+ghost use Rattle.ranges.specs.Effect.{effect};
 ghost use Rattle.lines.specs.Ran.{Known, tableOf};
 ghost use Rattle.perform.specs.Steps.{Steps};
+use lines::Counts;
+use lines::Letters;
+use lines::Line;
 use lines::Printed;
-use paper::Refusal;
 use undo::Acted;
+use walk::Marks;
+use walk::Order;
 
 // J60 to J109: lists and structures.
 pub fn on_lists(
     cells: &mut [u64],
     log: &mut [u64],
-    order: &mut [u16; 16384],
-    marks: &mut [u16; 16384],
+    order: &mut Order,
+    marks: &mut Marks,
     a: Acted,
     top: u16,
     j: u16,
 ) -> Acted
     requires { ⌜ Clean (now cells) (now order) (now marks) × Room (now log) (3 * length (now cells) + 10) × (60 ≤ j) × (j ≤ 109) ⌝ }
-    ensures { λ r. ⌜ Did (Top top) (3 * length (now (cells .entry)) + 10) (perform j) (now (cells .entry)) (now (log .entry)) a (now (cells .exit)) (now (log .exit)) r tt
+    ensures { λ r. ⌜ Did (Top top) (3 * length (now (cells .entry)) + 10) (effect j) (now (cells .entry)) (now (log .entry)) a
+        (now (cells .exit)) (now (log .exit)) r tt
         × Clean (now (cells .exit)) (now (order .exit)) (now (marks .exit)) ⌝ }
 {
     match j {
@@ -35,28 +42,29 @@ pub fn on_lists(
         72 => structures::j72(cells, log, order, marks, a, top),
         74 => structures::j74(cells, log, order, marks, a, top),
         90 => processes::j90(cells, log, a),
-        _ => undo::refuse_if(a, true, Refusal::NotListed(j)),
+        _ => ranges::not_listed(a, j),
     }
 }
 
-// Any process but J1, by its number. The line that it prints, if any, is kept in `line`.
+// A process by its number. The line that it prints, if any, is kept in `line`.
 pub fn perform(
     cells: &mut [u64],
     log: &mut [u64],
-    order: &mut [u16; 16384],
-    marks: &mut [u16; 16384],
-    line: &mut [u8; 32],
-    letters: &[u8; 23],
-    counts: &[u16; 23],
+    order: &mut Order,
+    marks: &mut Marks,
+    line: &mut Line,
+    letters: &Letters,
+    counts: &Counts,
     n: usize,
     a: Acted,
     top: u16,
     room: usize,
     j: u16,
 ) -> Printed
-    requires { ⌜ Clean (now cells) (now order) (now marks) × Room (now log) (3 * length (now cells) + 70) × (length (now line) ≡ 32) ⌝ }
-    ensures { λ r. ⌜ Steps (Known (tableOf (now (letters .entry)) (now (counts .entry)) n) room top) (3 * length (now (cells .entry)) + 70) (perform j)
-        (now (cells .entry)) (now (log .entry)) a (now (cells .exit)) (now (log .exit)) (now (order .exit)) (now (marks .exit)) (now (line .exit)) (r .go) (r .len) tt ⌝ }
+    requires { ⌜ Clean (now cells) (now order) (now marks) × Room (now log) (3 * length (now cells) + 70) × (length (now line) ≡ longestLine) × (J j < 2 ^ 16) ⌝ }
+    ensures { λ r. ⌜ Steps (Known (tableOf (now (letters .entry)) (now (counts .entry)) n) room top) (3 * length (now (cells .entry)) + 70) (effect j)
+        (now (cells .entry)) (now (log .entry)) a
+        (now (cells .exit)) (now (log .exit)) (now (order .exit)) (now (marks .exit)) (now (line .exit)) (r .go) (r .len) tt ⌝ }
 {
     match j {
         0..=9 => {
@@ -82,11 +90,11 @@ pub fn perform(
         152 => lines::j152(cells, log, line, a, top, letters, counts, n, room),
         153 => lines::j153(cells, log, line, a, top, room),
         10..=19 => {
-            let go = undo::refuse_if(a, true, Refusal::NotListed(j));
+            let go = ranges::not_listed(a, j);
             Printed { go: go, len: 0 }
         }
         154..=65535 => {
-            let go = undo::refuse_if(a, true, Refusal::NotListed(j));
+            let go = ranges::not_listed(a, j);
             Printed { go: go, len: 0 }
         }
     }

@@ -1,6 +1,6 @@
 use mathlib.Core.Path.{ap, sym, _∙_}
 use native.Mathlib.Omega.{arith}
-use Rattle.paper.specs.Process.{perform}
+use Rattle.ranges.specs.Effect.{effect}
 use Rattle.undo.proofs.Lines.{any, test, reads, else}
 use Rattle.undo.proofs.Readings.{any-on}
 use Rattle.perform.proofs.StepLaws.{clean-on, quietly, steps-most, steps-alike, steps-test, steps-reads}
@@ -17,7 +17,7 @@ perform-requires c κs =
     let c₂ = c₁ .before .before .before .before .before in
     let p = c₂ .pre in
     let d = c₁ .past-j1 in
-    (clean-on (d .kept .0) (p .0), record { fits = omega (arith, d .kept .0, d .kept .1 .0, d .ensures .count, p .1 .fits) }, p .2)
+    (clean-on (d .kept .0) (p .0), record { fits = omega (arith, d .kept .0, d .kept .1 .0, d .ensures .count, p .1 .fits) }, p .2, c .before .before .before .before .before .process-number .ensures .1)
 
 returns : tie.Need-returns
 unfolding atOnce
@@ -35,7 +35,7 @@ returns c =
     (steps-reads _ (any-on (c₆ .touch .ensures))
     (steps-test (c₅ .not-own .ensures)
     (steps-yes _ (sym (c₄ .is-process .ensures) ∙ c₃ .if1 .taken)
-    (steps-after (steps-alike (ap perform (c₂ .process-number .ensures)) (c₁ .perform .ensures)))))))
+    (steps-after (steps-alike (ap effect (c₂ .process-number .ensures .0)) (c₁ .perform .ensures)))))))
 
 returns-2 : tie.Need-returns-2
 unfolding atOnce

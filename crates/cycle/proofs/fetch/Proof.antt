@@ -13,7 +13,7 @@ returns c =
     let c₃ = c₂ .before in
     let c₄ = c₃ .before in
     reads-on _ (any-on (c₄ .touch .ensures))
-    (test-on (when _ (c₃ .is-integer .ensures) (c₂ .refuse-if .ensures))
+    (test-on (when _ (c₃ .is-term .ensures) (c₂ .refuse-if .ensures))
     (yes-on _ (sym (c₁ .is-process .ensures) ∙ c .if1 .taken) give-on))
 
 returns-2 : tie.Need-returns-2
@@ -26,7 +26,7 @@ returns-2 c =
     let c₅ = c₄ .before in
     let c₆ = c₅ .before in
     reads-on _ (any-on (c₆ .touch .ensures))
-    (test-on (when _ (c₅ .is-integer .ensures) (c₄ .refuse-if .ensures))
+    (test-on (when _ (c₅ .is-term .ensures) (c₄ .refuse-if .ensures))
     (else-on _ (sym (c₃ .is-process .ensures) ∙ c₂ .if1 .left)
     (alike-on (ap (orderIn _) (sym (c₁ .word-in .ensures))) (c .order-in .ensures))))
 

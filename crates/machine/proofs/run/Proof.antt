@@ -1,9 +1,10 @@
-use Prim.Native.Nat.{ℕ}
+use Prim.Native.Nat.{ℕ, _+_, _*_}
 use mathlib.Core.Path.{_≡_, refl, ap, sym, _∙_}
 use mathlib.Core.Bool.{true}
 use native.Mathlib.Omega.{arith}
 use borrow.Author.Tests.{not-true, not-false}
 use lib.ListN.{length, length-replicate}
+use Rattle.paper.specs.Limits.{largestN, longestLine}
 use Rattle.paper.specs.Cell.{sizeFits}
 use Rattle.sound.specs.Store.{storeSound}
 use Rattle.sound.proofs.SoundLaws.{passed-formed, passed-end, size-range}
@@ -80,9 +81,9 @@ cycles-requires c κs =
     let a = start d .args in
     let n = size-range (length (a .cells .now)) (fits d) in (
       record {
-        room = omega (arith, n .1, length-replicate {A = ℕ} 196757 0);
-        clean = record { small = n .1; sized = length-replicate {A = ℕ} 16384 0; unmarked = refl };
-        sized = length-replicate {A = ℕ} 32 0;
+        room = omega (arith, n .1, length-replicate {A = ℕ} (2 * (6 * largestN + 74) + 1) 0);
+        clean = record { small = n .1; sized = length-replicate {A = ℕ} largestN 0; unmarked = refl };
+        sized = length-replicate {A = ℕ} longestLine 0;
       },
       passed-formed (a .regions) (a .cells .now) (sound d),
       sym (d .top .ensures),

@@ -93,7 +93,7 @@ returns-9 c = (
         ),
       ),
     ),
-  )) (c .refuse-if .ensures),
+  )) (c .not-listed .ensures),
   c .before .before .before .before .pre .0,
 )
 

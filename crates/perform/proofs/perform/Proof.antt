@@ -40,7 +40,7 @@ unfolding noneFor listed member
 returns-4 c =
     let c₁ = c .before .before .before .before .before .before in
     quietly (c₁ .pre .2) (c₁ .pre .0)
-    (unlisted 10 19 _ [] refl (omega arith) (omega arith) tt (c .refuse-if .ensures))
+    (unlisted 10 19 _ [] refl (omega arith) (omega arith) tt (c .not-listed .ensures))
 
 returns-5 : tie.Need-returns-5
 returns-5 c =
@@ -74,7 +74,7 @@ unfolding noneFor listed member
 returns-9 c =
     let c₁ = c .before .before .before .before .before .before .before .before .before .before in
     quietly (c₁ .pre .2) (c₁ .pre .0)
-    (unlisted 154 65535 _ [] refl (omega arith) (omega (arith, c₁ .fits .j)) tt (c .refuse-if2 .ensures))
+    (unlisted 154 65535 _ [] refl (omega arith) (omega (arith, c₁ .fits .j)) tt (c .not-listed2 .ensures))
 
 pub perform-spec : {M : Type 1} → statement M
 perform-spec =
