@@ -1,6 +1,7 @@
 // Each small action on a store made by hand, accepted and refused with each of its answers: a line has the action and the answer.
 ghost use Rattle.undo.specs.Log.{Room};
 use paper::Symbol;
+use paper::limits;
 use undo::Acted;
 
 // The reserved cells end here.
@@ -148,7 +149,7 @@ fn lists(mut s: [u64; 256]) -> [u64; 256] {
     s[235] = cells::of_fields(0, 0, 11, 235);
     s[236] = cells::of_fields(0, 0, 11, 223);
     s[237] = cells::of_fields(0, 0, 11, 233);
-    s[238] = cells::of_fields(0, 0, 11, 221);
+    s[238] = cells::of_fields(0, 0, limits::W0, limits::FIRST_DECK);
     s
 }
 
@@ -156,7 +157,7 @@ fn lists(mut s: [u64; 256]) -> [u64; 256] {
 fn others(mut s: [u64; 256]) -> [u64; 256] {
     s[223] = cells::of_free(224);
     s[224] = cells::of_free(0);
-    s[233] = cells::of_integer(cells::ZERO);
+    s[233] = cells::of_term(cells::ZERO);
     s[234] = cells::of_fields(0, 1, 11, 0);
     s[240] = cells::of_fields(0, 0, 231, 231);
     s[241] = cells::of_fields(0, 0, 223, 0);
@@ -216,7 +217,7 @@ fn symbol_read(cells: &[u64], action: u64, c: u16) -> Acted {
     let w = acts::own(cells, c);
     match action {
         6 => {
-            let g = acts::below(cells, a, w);
+            let g = acts::below(cells, a, c, w);
             g.go
         }
         7 => {

@@ -1,9 +1,14 @@
 // Demand 3 on stores of 16,384 cells made by hand: the answers of preserve, copy and erase, and whether every cell is as it was.
 // A copy needs one cell more than the structure has: of 16,163 cells, 8,081 are the longest list that can be copied.
 use paper::RunAnswer;
+use paper::limits;
 use sound::Regions;
 
-// What stands from cell 221 on, up to a last cell.
+const N: u16 = limits::LARGEST_N as u16;
+
+type Store = [u64; limits::LARGEST_N];
+
+// What stands from the first deck cell on, up to a last cell.
 enum Shape {
     Flat,
     Nested,
@@ -21,61 +26,61 @@ fn next(i: u16, last: u16) -> u16 {
 
 fn in_structure(shape: Shape, last: u16, i: u16) -> u64 {
     match shape {
-        Shape::Flat => cells::of_fields(0, 0, 11, next(i, last)),
+        Shape::Flat => cells::of_fields(0, 0, limits::W0, next(i, last)),
         Shape::Nested => {
             if i < last {
                 return cells::of_fields(0, 2, i + 1, 0);
             }
-            cells::of_fields(0, 0, 11, 0)
+            cells::of_fields(0, 0, limits::W0, 0)
         }
         Shape::NamedTwice => {
             if i < last {
-                return cells::of_fields(0, 2, last, next(i, 222));
+                return cells::of_fields(0, 2, last, next(i, limits::FIRST_DECK + 1));
             }
-            cells::of_fields(0, 0, 11, 0)
+            cells::of_fields(0, 0, limits::W0, 0)
         }
         Shape::IntegerByLink => {
             if i < last {
-                return cells::of_fields(0, 0, 11, i + 1);
+                return cells::of_fields(0, 0, limits::W0, i + 1);
             }
-            cells::of_integer(cells::ZERO)
+            cells::of_term(cells::ZERO)
         }
     }
 }
 
 // Cell i of the store: H0 names the structure, and what lies after its last cell is free.
 fn cell(shape: Shape, last: u16, i: u16) -> u64 {
-    if i == 1 {
-        return cells::of_fields(0, 4, 221, 0);
+    if i == limits::H0 {
+        return cells::of_fields(0, 4, limits::FIRST_DECK, 0);
     }
-    if i == 3 {
-        return cells::of_fields(0, 4, 0, next(last, 16383));
+    if i == limits::H2 {
+        return cells::of_fields(0, 4, 0, next(last, N - 1));
     }
-    if i < 21 {
+    if i < limits::J0 {
         return 0;
     }
-    if i < 221 {
+    if i < limits::FIRST_DECK {
         return cells::of_process();
     }
     if i <= last {
         return in_structure(shape, last, i);
     }
-    cells::of_free(next(i, 16383))
+    cells::of_free(next(i, N - 1))
 }
 
-fn store(shape: Shape, last: u16) -> [u64; 16384] {
-    let mut s = [0u64; 16384];
+fn store(shape: Shape, last: u16) -> Store {
+    let mut s = [0u64; limits::LARGEST_N];
     let mut i: u16 = 0;
-    while i < 16384 {
+    while i < N {
         s[i as usize] = cell(shape, last, i);
         i += 1;
     }
     s
 }
 
-fn as_before(s: &[u64; 16384], shape: Shape, last: u16) -> bool {
+fn as_before(s: &Store, shape: Shape, last: u16) -> bool {
     let mut i: u16 = 0;
-    while i < 16384 {
+    while i < N {
         if s[i as usize] != cell(shape, last, i) {
             return false;
         }

@@ -2,7 +2,11 @@
 ghost use Prim.Native.Nat.{_<_};
 use crate::input::byte;
 use paper::LoadAnswer;
+use paper::limits;
 use sound::Regions;
+
+// The cells of a walk, and zeros.
+type Cells = [u16; limits::LARGEST_N];
 
 pub fn text(t: &[u8]) {
     io::write_all(1, t);
@@ -174,9 +178,9 @@ fn wide(c: u16) -> u64 {
     c as u64
 }
 
-fn zeros(cells: &[u16; 16384], from: usize) -> bool {
+fn zeros(cells: &Cells, from: usize) -> bool {
     let mut i = from;
-    while i < 16384 {
+    while i < limits::LARGEST_N {
         if cells[i] != 0 {
             return false;
         }
@@ -185,9 +189,9 @@ fn zeros(cells: &[u16; 16384], from: usize) -> bool {
     true
 }
 
-fn numbers(cells: &[u16; 16384], n: usize) {
+fn numbers(cells: &Cells, n: usize) {
     let mut i = 0;
-    while i < 16384 {
+    while i < limits::LARGEST_N {
         if i < n {
             text(b" ");
             number(wide(cells[i]));
@@ -197,7 +201,7 @@ fn numbers(cells: &[u16; 16384], n: usize) {
 }
 
 // The cells of a walk; past them stand zeros.
-pub fn met(cells: &[u16; 16384], n: usize) {
+pub fn met(cells: &Cells, n: usize) {
     numbers(cells, n);
     if !zeros(cells, n) {
         text(b" past the walk");

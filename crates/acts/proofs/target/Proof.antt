@@ -1,0 +1,11 @@
+use Rattle.paper.specs.Act.{target}
+use borrow.Author.Needs.{needs}
+use Rattle.acts.proofs.target.Statement.{statement}
+use Rattle.acts.proofs.target.Tie as tie
+
+returns : tie.Need-returns
+unfolding target
+returns c = c .touch .ensures
+
+pub target-spec : {M : Type 1} → statement M
+target-spec = tie.close (tie.spec (λ c κs. search needs) returns)
