@@ -3,6 +3,7 @@ use mathlib.Core.Path.{_≡_, refl, sym, ap, _∙_}
 use mathlib.Core.Bool.{Bool, true, false, _&&_, not}
 use mathlib.Core.List.{List, [], _∷_}
 use mathlib.Core.Logic.{_≢_}
+use mathlib.Core.Option.{Option}
 use Prim.Native.Nat.{ℕ, zero, suc, _+_, _<_, _≤_}
 use native.Mathlib.Omega.{arith}
 use borrow.Author.Tests.{eqb-false, ltb-false, lt-ltb}
@@ -12,16 +13,15 @@ use lib.Seq.{getD-set-same, getD-set-other, set-set, set-comm, set-getD}
 use Rattle.paper.specs.declared.Symbol.{Symbol}
 use Rattle.paper.specs.declared.Refusal.{Refusal}
 use Rattle.paper.specs.declared.Refusal.the-variants.{FreeCell, WrongKind, NotToBeFreed, NothingBelow}
-use Rattle.paper.specs.Limits.{firstDeck}
 use Rattle.paper.specs.Cell.{State, Region, Cell, free, word, term, process, isFree, isWord, wordIn, Word, withLink, withCells, cellAt}
 use Rattle.paper.specs.Cell.{endOfRegions, reservedIn, isHW, H}
 use Rattle.paper.specs.Act.{Act, done, refused, _>>=_, _>>_, ret, refuseIf, own, peek, put, reserved, touch, asWord, wordAt, hasBelow, pullUp, release}
 use Rattle.paper.specs.Act.{takeAs, ownRestore, pop, push, pops, gives}
 use Rattle.cells.specs.Bridge.{Rest, stateOf, cellIn}
-use Rattle.undo.specs.declared.Acted.{Acted}
-use Rattle.undo.specs.Did.{Did}
-use Rattle.undo.proofs.Steps.{bind-ok, then-ok, bind-no, then-no, fails, passes}
-use Rattle.undo.proofs.Lines.{alike-here}
+use Rattle.steps.specs.Follows.{Follows}
+use Rattle.undo.specs.Did.{lent}
+use Rattle.steps.proofs.Steps.{bind-ok, then-ok, bind-no, then-no, fails, passes}
+use Rattle.steps.proofs.Sequence.{alike-here}
 use Rattle.acts.specs.Net.{topped, stays}
 use Rattle.acts.proofs.Once.{push-once}
 
@@ -31,12 +31,12 @@ end-least [] at = omega arith
 end-least (r ∷ rs) at = let h = end-least rs (at + r .count) in omega arith
 
 -- a cell that is not 0 and not reserved is no H, W or J cell
-high : (rs : List Region) (n : ℕ) → eqb n 0 ≡ false → reservedIn rs n ≡ false → firstDeck ≤ n
+high : (rs : List Region) (n : ℕ) → eqb n 0 ≡ false → reservedIn rs n ≡ false → 221 ≤ n
 unfolding reservedIn
 high rs zero n0 un = absurd (eqb-false 0 0 n0 refl)
 high rs (suc n) n0 un =
-    let q : ltb (suc n) (endOfRegions rs firstDeck) ≡ false = rw (lt-ltb 0 (suc n) (omega arith)) at un in
-    omega (arith, ltb-false (suc n) (endOfRegions rs firstDeck) q, end-least rs firstDeck)
+    let q : ltb (suc n) (endOfRegions rs 221) ≡ false = rw (lt-ltb 0 (suc n) (omega arith)) at un in
+    omega (arith, ltb-false (suc n) (endOfRegions rs 221) q, end-least rs 221)
 
 in-range : (cs : List Cell) (n : ℕ) (v : Word) → cellAt cs n ≡ word v → n < length cs
 in-range [] n v e = absurd (let z : _≡_ {A = ℕ} 0 1 = cc in omega arith)
@@ -148,7 +148,7 @@ way s = go (eqb (w .link) 1) (eqb (w .link) 0) (cellAt (s .cells) (w .link)) ref
         stops (NothingBelow 1)
         (λ K. bind-ok _ _ _ _ _ (owns 1 s w refl) (then-no _ _ _ _ (then-ok _ _ _ _ _ (passes _ _ s p) (fails _ _ s q))))
     go false false (free l) p q at = no-word (FreeCell (w .link)) p q (free-no (w .link) s l q at)
-    go false false (term t) p q at = no-word (WrongKind (w .link)) p q (kind-no (w .link) s (term t) q at refl refl)
+    go false false (term z) p q at = no-word (WrongKind (w .link)) p q (kind-no (w .link) s (term z) q at refl refl)
     go false false process p q at = no-word (WrongKind (w .link)) p q (kind-no (w .link) s process q at refl refl)
     go false false (word v) p q at = at-word v (eqb (v .q) 1) (reservedIn (s .regions) (w .link)) p q at refl refl
 
@@ -169,7 +169,7 @@ net-no x s e f =
     ∙ sym (ap (λ (m : Act (Unit {0})). m s) (stays-lifts x) ∙ f (λ w v. put 1 (topped x w v)))
 
 module _ (s : State) (x : Symbol) (w v h : Word) (p : Pops s w v) (at-3 : cellAt (s .cells) 3 ≡ word h) where
-  far : firstDeck ≤ w .link
+  far : 221 ≤ w .link
   far = high (s .regions) (w .link) (p .some) (p .free-to)
 
   n≢1 : w .link ≢ 1
@@ -251,7 +251,7 @@ module _ (s : State) (x : Symbol) (w v h : Word) (p : Pops s w v) (at-3 : cellAt
 is-word : (y : Cell) → isWord y ≡ true → y ≡ word (wordIn y)
 is-word (word w) e = refl
 is-word (free l) e = absurd (let z : _≡_ {A = ℕ} 0 1 = cc in omega arith)
-is-word (term t) e = absurd (let z : _≡_ {A = ℕ} 0 1 = cc in omega arith)
+is-word (term z) e = absurd (let z : _≡_ {A = ℕ} 0 1 = cc in omega arith)
 is-word process e = absurd (let z : _≡_ {A = ℕ} 0 1 = cc in omega arith)
 
 net : (x : Symbol) (s : State) → isWord (cellAt (s .cells) 3) ≡ true → gives 1 x s ≡ stays x s
@@ -262,7 +262,7 @@ net x s k = go (way s)
     go (stops e f) = net-no x s e f
 
 -- carried to the numbers
-pub net-did : (x : Symbol) {k : ℕ} {K : Rest → Type 0} {s l s′ l′ : List ℕ} {a r : Acted} → isWord (cellIn s 3) ≡ true
-    → Did K k (stays x) s l a s′ l′ r tt → Did K k (gives 1 x) s l a s′ l′ r tt
+pub net-did : (x : Symbol) {k : ℕ} {K : Rest → Type 0} {s l : List ℕ} {y : List ℕ × List ℕ} {a r : Option Refusal} → isWord (cellIn s 3) ≡ true
+    → Follows lent K k (stays x) (s, l) a y r tt → Follows lent K k (gives 1 x) (s, l) a y r tt
 unfolding cellIn
 net-did x {s = s} q d = alike-here (λ e h. net x (stateOf e s) q) d

@@ -1,135 +1,115 @@
-// The small actions of a cycle, line by line the blocks of paper/specs/Act. Each takes the answer so far and does nothing where
-// that is a refusal; take_as, pull_up, store and push, which are called most, look at it once, before their writes. Reserved cells
-// are those below `top`, where the deck regions end.
+// The small actions of a cycle, line by line the blocks of paper/specs/Act. Each takes the verdict so far, `go`, and does nothing where that
+// is a refusal. Reserved cells are those below `top`, where the deck regions end.
+ghost use Prim.Native.Nat.{_+_};
 ghost use mathlib.Core.Path.{_≡_};
 ghost use mathlib.Core.Bool.{_&&_, _||_};
-ghost use mathlib.Core.List.{List};
-ghost use Prim.Native.Nat.{ℕ};
 ghost use lib.Dec.{eqb};
 ghost use Rattle.paper.specs.Cell.{isHW, H as cellH};
-ghost use Rattle.paper.specs.Act.{own, touch, target, asWord, asTerm, wordAt, wordTo, termAt, termTo, notOwn, named, readAt, takeAs, release};
-ghost use Rattle.paper.specs.Act.{linkBelow, preserve, hasBelow, pullUp, restore, store, ownPreserve, ownRestore, ownStore, push, pop, below};
-ghost use Rattle.paper.specs.Act.{pops, gives, symbolIn, symbolInThat, designate};
-ghost use Rattle.paper.specs.Process.{integerAt};
+ghost use Rattle.paper.specs.Act.{own, touch, target, wordAt, wordTo, termAt, termTo, notOwn, named, readAt, takeAs, release};
+ghost use Rattle.paper.specs.Act.{linkBelow, preserve, hasBelow, pullUp};
+ghost use Rattle.paper.specs.Act.{restore, store, ownPreserve, ownRestore, ownStore, push, pop, below, pops, gives, symbolIn, symbolInThat};
+ghost use Rattle.paper.specs.Act.{designate};
+ghost use Rattle.paper.specs.Process.{integerAt, sign, setH5, tests, copyName};
 ghost use Rattle.cells.specs.Layout.{unpackOf, wordOf, valueOf, termOf};
 ghost use Rattle.cells.specs.Pack.{packOf};
-ghost use Rattle.undo.specs.Log.{Room};
+ghost use Rattle.undo.specs.Log.{Room, writes};
 ghost use Rattle.undo.specs.Did.{Judged, Always, Top, reservedBy, nameBy, Sees, Reads, Did};
 ghost use Rattle.acts.specs.Net.{stays};
-use paper::Refusal;
 use paper::Symbol;
 use paper::limits;
-use undo::Acted;
 
-// What an action came to, and its value: the number of a cell or a word, a data term, an integer (its value + 2^31), a cell's place,
-// a symbol.
+// The verdict, and a value: the number of a cell or a word, the bits of a term, a cell's place, a symbol.
 pub struct Got {
-    pub go: Acted,
+    pub go: u32,
     pub x: u64,
 }
 
 pub struct GotTerm {
-    pub go: Acted,
-    pub v: u32,
-}
-
-pub struct GotInteger {
-    pub go: Acted,
+    pub go: u32,
     pub v: u32,
 }
 
 pub struct GotCell {
-    pub go: Acted,
+    pub go: u32,
     pub c: u16,
 }
 
 pub struct GotSymbol {
-    pub go: Acted,
+    pub go: u32,
     pub x: Symbol,
 }
 
 pub fn own(cells: &[u64], c: u16) -> u64
-    ensures { λ r. ⌜ Sees Always (own c) (now (cells .entry)) (wordOf r) ⌝ }
+    ensures { λ r. ⌜ Sees Always (own c) cells (wordOf r) ⌝ }
 {
     cells::word_in(cells::peek(cells, c))
 }
 
-pub fn touch(cells: &[u64], a: Acted, c: u16) -> Got
-    ensures { λ r. ⌜ Reads Always (touch c) (now (cells .entry)) a (r .go) (unpackOf (r .x)) ⌝ }
+pub fn touch(cells: &[u64], go: u32, c: u16) -> Got
+    ensures { λ r. ⌜ Reads Always (touch c) cells go (r .go) (unpackOf (r .x)) ⌝ }
 {
-    let b = undo::refuse_if(a, c == 0, Refusal::CellZero);
+    let go = undo::refuse_if(go, c == 0, 21, 0);
     let x = cells::peek(cells, c);
-    let go = undo::refuse_if(b, cells::is_free(x), Refusal::FreeCell(c));
+    let go = undo::refuse_if(go, cells::is_free(x), 22, c);
     Got { go: go, x: x }
 }
 
-// A cell that is to be written.
-pub fn target(cells: &[u64], a: Acted, c: u16) -> Got
-    ensures { λ r. ⌜ Reads Always (target c) (now (cells .entry)) a (r .go) (unpackOf (r .x)) ⌝ }
+// A cell that an action writes.
+pub fn target(cells: &[u64], go: u32, c: u16) -> Got
+    ensures { λ r. ⌜ Reads Always (target c) cells go (r .go) (unpackOf (r .x)) ⌝ }
 {
-    touch(cells, a, c)
+    touch(cells, go, c)
 }
 
-// The word or the term in a cell that was touched, whatever the store.
-fn as_word(a: Acted, c: u16, x: u64) -> Got
-    ensures { λ r. ⌜ ((s : List ℕ) → Reads Always (asWord c (unpackOf x)) s a (r .go) (wordOf (r .x))) ⌝ }
+pub fn word_at(cells: &[u64], go: u32, c: u16) -> Got
+    ensures { λ r. ⌜ Reads Always (wordAt c) cells go (r .go) (wordOf (r .x)) ⌝ }
 {
-    let go = undo::refuse_if(a, !cells::is_word(x), Refusal::WrongKind(c));
+    let t = touch(cells, go, c);
+    let go = undo::refuse_if(t.go, !cells::is_word(t.x), 23, c);
     Got {
         go: go,
-        x: cells::word_in(x),
+        x: cells::word_in(t.x),
     }
 }
 
-fn as_term(a: Acted, c: u16, x: u64) -> GotTerm
-    ensures { λ r. ⌜ ((s : List ℕ) → Reads Always (asTerm c (unpackOf x)) s a (r .go) (termOf (r .v))) ⌝ }
+pub fn word_to(cells: &[u64], go: u32, c: u16) -> Got
+    ensures { λ r. ⌜ Reads Always (wordTo c) cells go (r .go) (wordOf (r .x)) ⌝ }
 {
-    let go = undo::refuse_if(a, !cells::is_term(x), Refusal::WrongKind(c));
+    let t = target(cells, go, c);
+    let go = undo::refuse_if(t.go, !cells::is_word(t.x), 23, c);
+    Got {
+        go: go,
+        x: cells::word_in(t.x),
+    }
+}
+
+pub fn term_at(cells: &[u64], go: u32, c: u16) -> GotTerm
+    ensures { λ r. ⌜ Reads Always (termAt c) cells go (r .go) (termOf (r .v)) ⌝ }
+{
+    let t = touch(cells, go, c);
+    let go = undo::refuse_if(t.go, !cells::is_term(t.x), 23, c);
     GotTerm {
         go: go,
-        v: cells::term_in(x),
+        v: cells::term_in(t.x),
     }
 }
 
-pub fn word_at(cells: &[u64], a: Acted, c: u16) -> Got
-    ensures { λ r. ⌜ Reads Always (wordAt c) (now (cells .entry)) a (r .go) (wordOf (r .x)) ⌝ }
+pub fn term_to(cells: &[u64], go: u32, c: u16) -> GotTerm
+    ensures { λ r. ⌜ Reads Always (termTo c) cells go (r .go) (termOf (r .v)) ⌝ }
 {
-    let t = touch(cells, a, c);
-    let b = t.go;
-    as_word(b, c, t.x)
-}
-
-pub fn word_to(cells: &[u64], a: Acted, c: u16) -> Got
-    ensures { λ r. ⌜ Reads Always (wordTo c) (now (cells .entry)) a (r .go) (wordOf (r .x)) ⌝ }
-{
-    let t = target(cells, a, c);
-    let b = t.go;
-    as_word(b, c, t.x)
-}
-
-pub fn term_at(cells: &[u64], a: Acted, c: u16) -> GotTerm
-    ensures { λ r. ⌜ Reads Always (termAt c) (now (cells .entry)) a (r .go) (termOf (r .v)) ⌝ }
-{
-    let t = touch(cells, a, c);
-    let b = t.go;
-    as_term(b, c, t.x)
-}
-
-pub fn term_to(cells: &[u64], a: Acted, c: u16) -> GotTerm
-    ensures { λ r. ⌜ Reads Always (termTo c) (now (cells .entry)) a (r .go) (termOf (r .v)) ⌝ }
-{
-    let t = target(cells, a, c);
-    let b = t.go;
-    as_term(b, c, t.x)
+    let t = target(cells, go, c);
+    let go = undo::refuse_if(t.go, !cells::is_term(t.x), 23, c);
+    GotTerm {
+        go: go,
+        v: cells::term_in(t.x),
+    }
 }
 
 // A term of the one sort is its integer.
-pub fn integer_at(cells: &[u64], a: Acted, c: u16) -> GotInteger
-    ensures { λ r. ⌜ Reads Always (integerAt c) (now (cells .entry)) a (r .go) (valueOf (r .v)) ⌝ }
+pub fn integer_at(cells: &[u64], go: u32, c: u16) -> GotTerm
+    ensures { λ r. ⌜ Reads Always (integerAt c) cells go (r .go) (valueOf (r .v)) ⌝ }
 {
-    let t = term_at(cells, a, c);
-    let go = t.go;
-    GotInteger { go: go, v: t.v }
+    term_at(cells, go, c)
 }
 
 // H1 and H2.
@@ -139,29 +119,27 @@ fn is_own(c: u16) -> bool
     c == limits::H1 || c == limits::H2
 }
 
-pub fn not_own(a: Acted, c: u16) -> Acted
-    ensures { λ r. ⌜ Judged (notOwn c) a r ⌝ }
+pub fn not_own(go: u32, c: u16) -> u32
+    ensures { λ r. ⌜ Judged (notOwn c) go r ⌝ }
 {
-    undo::refuse_if(a, is_own(c), Refusal::OwnCell(c))
+    undo::refuse_if(go, is_own(c), 27, c)
 }
 
-pub fn named(cells: &[u64], a: Acted, c: u16) -> Got
-    ensures { λ r. ⌜ Reads Always (named c) (now (cells .entry)) a (r .go) (wordOf (r .x)) ⌝ }
+pub fn named(cells: &[u64], go: u32, c: u16) -> Got
+    ensures { λ r. ⌜ Reads Always (named c) cells go (r .go) (wordOf (r .x)) ⌝ }
 {
-    let g = word_at(cells, a, c);
-    let b = g.go;
-    let go = not_own(b, c);
+    let g = word_at(cells, go, c);
+    let go = not_own(g.go, c);
     Got { go: go, x: g.x }
 }
 
-pub fn read_at(cells: &[u64], a: Acted, c: u16) -> Got
-    ensures { λ r. ⌜ Reads Always (readAt c) (now (cells .entry)) a (r .go) (wordOf (r .x)) ⌝ }
+pub fn read_at(cells: &[u64], go: u32, c: u16) -> Got
+    ensures { λ r. ⌜ Reads Always (readAt c) cells go (r .go) (wordOf (r .x)) ⌝ }
 {
-    let g = word_at(cells, a, c);
+    let g = word_at(cells, go, c);
     let w = g.x;
-    let b = g.go;
-    let d = undo::refuse_if(b, w / cells::Q % 256 == 1, Refusal::WrongKind(c));
-    let go = not_own(d, c);
+    let go = undo::refuse_if(g.go, w / cells::Q % 256 == 1, 23, c);
+    let go = not_own(go, c);
     Got { go: go, x: w }
 }
 
@@ -187,72 +165,52 @@ pub fn name_of(top: u16, c: u16) -> Symbol
 }
 
 // The first cell of H2's list gets the number y.
-pub fn take_as(cells: &mut [u64], log: &mut [u64], a: Acted, y: u64) -> GotCell
-    requires { ⌜ Room (now log) 2 × (packOf (unpackOf y) ≡ y) ⌝ }
-    ensures { λ r. ⌜ Did Always 2 (takeAs (unpackOf y)) (now (cells .entry)) (now (log .entry)) a (now (cells .exit)) (now (log .exit)) (r .go) (r .c) ⌝ }
+pub fn take_as(cells: &mut [u64], log: &mut [u64], go: u32, y: u64) -> GotCell
+    requires { ⌜ Room (now log) 1 × (packOf (unpackOf y) ≡ y) ⌝ }
+    ensures { λ r. ⌜ Did Always 1 (takeAs (unpackOf y)) cells log go (r .go) (r .c) ⌝ }
 {
     let h = own(cells, limits::H2);
     let f = (h % 65536) as u16;
-    let go = undo::refuse_if(a, f == 0, Refusal::NoFreeCell);
-    match go {
-        Acted::Done => {
-            let x = cells::peek(cells, f);
-            let z = cells::with_link(h, cells::free_link(x));
-            undo::put(cells, log, Acted::Done, limits::H2, z);
-            undo::put(cells, log, Acted::Done, f, y);
-            GotCell {
-                go: Acted::Done,
-                c: f,
-            }
-        }
-        Acted::Refused(e) => GotCell {
-            go: Acted::Refused(e),
-            c: f,
-        },
-    }
+    let go = undo::refuse_if(go, f == 0, 26, 0);
+    let x = cells::peek(cells, f);
+    undo::put(cells, log, go, limits::H2, cells::with_link(h, cells::free_link(x)));
+    undo::put(cells, log, go, f, y);
+    GotCell { go: go, c: f }
 }
 
-pub fn release(cells: &mut [u64], log: &mut [u64], a: Acted, c: u16)
-    requires { ⌜ Room (now log) 2 ⌝ }
-    ensures { λ _. ⌜ Did Always 2 (release c) (now (cells .entry)) (now (log .entry)) a (now (cells .exit)) (now (log .exit)) a tt ⌝ }
+pub fn release(cells: &mut [u64], log: &mut [u64], go: u32, c: u16)
+    requires { ⌜ Room (now log) 1 ⌝ }
+    ensures { λ _. ⌜ Did Always 1 (release c) cells log go go tt ⌝ }
 {
     let h = own(cells, limits::H2);
-    let y = cells::of_free((h % 65536) as u16);
-    let z = cells::with_link(h, c);
-    undo::put(cells, log, a, c, y);
-    undo::put(cells, log, a, limits::H2, z);
+    undo::put(cells, log, go, c, cells::of_free((h % 65536) as u16));
+    undo::put(cells, log, go, limits::H2, cells::with_link(h, c));
 }
 
-pub fn link_below(cells: &mut [u64], log: &mut [u64], a: Acted, c: u16, w: u64, v: u64) -> Acted
-    requires { ⌜ Room (now log) 3 ⌝ }
-    ensures { λ r. ⌜ Did Always 3 (linkBelow c (wordOf w) (wordOf v)) (now (cells .entry)) (now (log .entry)) a (now (cells .exit)) (now (log .exit)) r tt ⌝ }
+pub fn link_below(cells: &mut [u64], log: &mut [u64], go: u32, c: u16, w: u64, v: u64) -> u32
+    requires { ⌜ Room (now log) (1 + writes c) ⌝ }
+    ensures { λ r. ⌜ Did Always (1 + writes c) (linkBelow c (wordOf w) (wordOf v)) cells log go r tt ⌝ }
 {
-    let y = cells::of_word(v);
-    let t = take_as(cells, log, a, y);
-    let n = t.c;
-    let go = t.go;
-    let z = cells::with_link(w, n);
-    undo::put(cells, log, go, c, z);
-    go
+    let t = take_as(cells, log, go, cells::of_word(v));
+    undo::put(cells, log, t.go, c, cells::with_link(w, t.c));
+    t.go
 }
 
-pub fn preserve(cells: &mut [u64], log: &mut [u64], a: Acted, c: u16) -> Acted
-    requires { ⌜ Room (now log) 3 ⌝ }
-    ensures { λ r. ⌜ Did Always 3 (preserve c) (now (cells .entry)) (now (log .entry)) a (now (cells .exit)) (now (log .exit)) r tt ⌝ }
+pub fn preserve(cells: &mut [u64], log: &mut [u64], go: u32, c: u16) -> u32
+    requires { ⌜ Room (now log) 2 ⌝ }
+    ensures { λ r. ⌜ Did Always 2 (preserve c) cells log go r tt ⌝ }
 {
-    let g = word_to(cells, a, c);
-    let w = g.x;
-    let b = g.go;
-    let go = not_own(b, c);
-    link_below(cells, log, go, c, w, w)
+    let g = word_to(cells, go, c);
+    let go = not_own(g.go, c);
+    link_below(cells, log, go, c, g.x, g.x)
 }
 
-pub fn has_below(a: Acted, c: u16, w: u64) -> Acted
-    ensures { λ r. ⌜ Judged (hasBelow c (wordOf w)) a r ⌝ }
+pub fn has_below(go: u32, c: u16, w: u64) -> u32
+    ensures { λ r. ⌜ Judged (hasBelow c (wordOf w)) go r ⌝ }
 {
     let l = (w % 65536) as u16;
-    let b = undo::refuse_if(a, l == c, Refusal::NotToBeFreed(c));
-    undo::refuse_if(b, l == 0, Refusal::NothingBelow(c))
+    let go = undo::refuse_if(go, l == c, 24, c);
+    undo::refuse_if(go, l == 0, 25, c)
 }
 
 // A Q 1 word that would come into an H or W cell.
@@ -262,199 +220,223 @@ fn q1_for_hw(c: u16, w: u64) -> bool
     reserved(limits::J0, c) && w / cells::Q % 256 == 1
 }
 
-pub fn pull_up(cells: &mut [u64], log: &mut [u64], a: Acted, top: u16, c: u16, below: u16) -> Acted
-    requires { ⌜ Room (now log) 3 ⌝ }
-    ensures { λ r. ⌜ Did (Top top) 3 (pullUp c below) (now (cells .entry)) (now (log .entry)) a (now (cells .exit)) (now (log .exit)) r tt ⌝ }
+pub fn pull_up(cells: &mut [u64], log: &mut [u64], go: u32, top: u16, c: u16, below: u16) -> u32
+    requires { ⌜ Room (now log) (writes c + 1) ⌝ }
+    ensures { λ r. ⌜ Did (Top top) (writes c + 1) (pullUp c below) cells log go r tt ⌝ }
 {
-    let g = word_at(cells, a, below);
+    let g = word_at(cells, go, below);
     let v = g.x;
-    let b = g.go;
-    let d = undo::refuse_if(b, q1_for_hw(c, v), Refusal::WrongKind(below));
-    let go = undo::refuse_if(d, reserved(top, below), Refusal::NotToBeFreed(below));
-    match go {
-        Acted::Done => {
-            undo::put(cells, log, Acted::Done, c, cells::of_word(v));
-            release(cells, log, Acted::Done, below);
-            Acted::Done
-        }
-        Acted::Refused(e) => Acted::Refused(e),
-    }
+    let go = undo::refuse_if(g.go, q1_for_hw(c, v), 23, below);
+    let go = undo::refuse_if(go, reserved(top, below), 24, below);
+    undo::put(cells, log, go, c, cells::of_word(v));
+    release(cells, log, go, below);
+    go
 }
 
-pub fn restore(cells: &mut [u64], log: &mut [u64], a: Acted, top: u16, c: u16) -> Acted
-    requires { ⌜ Room (now log) 3 ⌝ }
-    ensures { λ r. ⌜ Did (Top top) 3 (restore c) (now (cells .entry)) (now (log .entry)) a (now (cells .exit)) (now (log .exit)) r tt ⌝ }
+pub fn restore(cells: &mut [u64], log: &mut [u64], go: u32, top: u16, c: u16) -> u32
+    requires { ⌜ Room (now log) 2 ⌝ }
+    ensures { λ r. ⌜ Did (Top top) 2 (restore c) cells log go r tt ⌝ }
 {
-    let g = word_to(cells, a, c);
+    let g = word_to(cells, go, c);
     let w = g.x;
-    let b = g.go;
-    let d = has_below(b, c, w);
-    let go = not_own(d, c);
+    let go = has_below(g.go, c, w);
+    let go = not_own(go, c);
     pull_up(cells, log, go, top, c, (w % 65536) as u16)
 }
 
-pub fn store(cells: &mut [u64], log: &mut [u64], a: Acted, c: u16, x: Symbol) -> Acted
+pub fn store(cells: &mut [u64], log: &mut [u64], go: u32, c: u16, x: Symbol) -> u32
     requires { ⌜ Room (now log) 1 ⌝ }
-    ensures { λ r. ⌜ Did Always 1 (store c x) (now (cells .entry)) (now (log .entry)) a (now (cells .exit)) (now (log .exit)) r tt ⌝ }
+    ensures { λ r. ⌜ Did Always 1 (store c x) cells log go r tt ⌝ }
 {
-    let g = word_to(cells, a, c);
-    let w = g.x;
-    let b = g.go;
-    let go = not_own(b, c);
-    match go {
-        Acted::Done => {
-            let z = cells::with_symbol(w, x);
-            undo::put(cells, log, Acted::Done, c, z);
-            Acted::Done
-        }
-        Acted::Refused(e) => Acted::Refused(e),
-    }
+    let g = word_to(cells, go, c);
+    let go = not_own(g.go, c);
+    undo::put(cells, log, go, c, cells::with_symbol(g.x, x));
+    go
 }
 
-pub fn own_preserve(cells: &mut [u64], log: &mut [u64], a: Acted, c: u16) -> Acted
-    requires { ⌜ Room (now log) 3 ⌝ }
-    ensures { λ r. ⌜ Did Always 3 (ownPreserve c) (now (cells .entry)) (now (log .entry)) a (now (cells .exit)) (now (log .exit)) r tt ⌝ }
+pub fn own_preserve(cells: &mut [u64], log: &mut [u64], go: u32, c: u16) -> u32
+    requires { ⌜ Room (now log) (1 + writes c) ⌝ }
+    ensures { λ r. ⌜ Did Always (1 + writes c) (ownPreserve c) cells log go r tt ⌝ }
 {
     let w = own(cells, c);
-    link_below(cells, log, a, c, w, w)
+    link_below(cells, log, go, c, w, w)
 }
 
-pub fn own_restore(cells: &mut [u64], log: &mut [u64], a: Acted, top: u16, c: u16) -> Acted
-    requires { ⌜ Room (now log) 3 ⌝ }
-    ensures { λ r. ⌜ Did (Top top) 3 (ownRestore c) (now (cells .entry)) (now (log .entry)) a (now (cells .exit)) (now (log .exit)) r tt ⌝ }
+pub fn own_restore(cells: &mut [u64], log: &mut [u64], go: u32, top: u16, c: u16) -> u32
+    requires { ⌜ Room (now log) (writes c + 1) ⌝ }
+    ensures { λ r. ⌜ Did (Top top) (writes c + 1) (ownRestore c) cells log go r tt ⌝ }
 {
     let w = own(cells, c);
-    let b = has_below(a, c, w);
-    pull_up(cells, log, b, top, c, (w % 65536) as u16)
+    let go = has_below(go, c, w);
+    pull_up(cells, log, go, top, c, (w % 65536) as u16)
 }
 
-pub fn own_store(cells: &mut [u64], log: &mut [u64], a: Acted, c: u16, x: Symbol)
-    requires { ⌜ Room (now log) 1 ⌝ }
-    ensures { λ _. ⌜ Did Always 1 (ownStore c x) (now (cells .entry)) (now (log .entry)) a (now (cells .exit)) (now (log .exit)) a tt ⌝ }
+pub fn own_store(cells: &mut [u64], log: &mut [u64], go: u32, c: u16, x: Symbol)
+    requires { ⌜ Room (now log) (writes c) ⌝ }
+    ensures { λ _. ⌜ Did Always (writes c) (ownStore c x) cells log go go tt ⌝ }
 {
     let w = own(cells, c);
-    let z = cells::with_symbol(w, x);
-    undo::put(cells, log, a, c, z);
+    undo::put(cells, log, go, c, cells::with_symbol(w, x));
 }
 
 // H0 is written once: its LINK and its symbol together.
-pub fn push(cells: &mut [u64], log: &mut [u64], a: Acted, x: Symbol) -> Acted
-    requires { ⌜ Room (now log) 3 ⌝ }
-    ensures { λ r. ⌜ Did Always 3 (push x) (now (cells .entry)) (now (log .entry)) a (now (cells .exit)) (now (log .exit)) r tt ⌝ }
-{
-    match a {
-        Acted::Done => {
-            let w = own(cells, limits::H0);
-            let y = cells::of_word(w);
-            let t = take_as(cells, log, Acted::Done, y);
-            let n = t.c;
-            let go = t.go;
-            let z = cells::of_fields((w / cells::P % 256) as u8, x.tag, x.num, n);
-            undo::put(cells, log, go, limits::H0, z);
-            go
-        }
-        Acted::Refused(e) => Acted::Refused(e),
-    }
-}
-
-pub fn pop(cells: &mut [u64], log: &mut [u64], a: Acted, top: u16) -> Acted
-    requires { ⌜ Room (now log) 3 ⌝ }
-    ensures { λ r. ⌜ Did (Top top) 3 pop (now (cells .entry)) (now (log .entry)) a (now (cells .exit)) (now (log .exit)) r tt ⌝ }
-{
-    own_restore(cells, log, a, top, limits::H0)
-}
-
-// The word one below cell c, whose word is w.
-pub fn below(cells: &[u64], a: Acted, c: u16, w: u64) -> Got
-    ensures { λ r. ⌜ Reads Always (below c (wordOf w)) (now (cells .entry)) a (r .go) (wordOf (r .x)) ⌝ }
-{
-    let l = (w % 65536) as u16;
-    let b = undo::refuse_if(a, l == 0, Refusal::NothingBelow(c));
-    read_at(cells, b, l)
-}
-
-pub fn pops2(cells: &mut [u64], log: &mut [u64], a: Acted, top: u16) -> Acted
-    requires { ⌜ Room (now log) 6 ⌝ }
-    ensures { λ r. ⌜ Did (Top top) 6 (pops 2) (now (cells .entry)) (now (log .entry)) a (now (cells .exit)) (now (log .exit)) r tt ⌝ }
-{
-    let b = pop(cells, log, a, top);
-    pop(cells, log, b, top)
-}
-
-pub fn pops3(cells: &mut [u64], log: &mut [u64], a: Acted, top: u16) -> Acted
-    requires { ⌜ Room (now log) 9 ⌝ }
-    ensures { λ r. ⌜ Did (Top top) 9 (pops 3) (now (cells .entry)) (now (log .entry)) a (now (cells .exit)) (now (log .exit)) r tt ⌝ }
-{
-    let b = pop(cells, log, a, top);
-    pops2(cells, log, b, top)
-}
-
-// A pop and then a push of x, as one write.
-fn stays(cells: &mut [u64], log: &mut [u64], a: Acted, top: u16, x: Symbol) -> Acted
+pub fn push(cells: &mut [u64], log: &mut [u64], go: u32, x: Symbol) -> u32
     requires { ⌜ Room (now log) 1 ⌝ }
-    ensures { λ r. ⌜ Did (Top top) 1 (stays x) (now (cells .entry)) (now (log .entry)) a (now (cells .exit)) (now (log .exit)) r tt ⌝ }
+    ensures { λ r. ⌜ Did Always 1 (push x) cells log go r tt ⌝ }
 {
     let w = own(cells, limits::H0);
-    let b = has_below(a, limits::H0, w);
+    let t = take_as(cells, log, go, cells::of_word(w));
+    undo::put(
+        cells,
+        log,
+        t.go,
+        limits::H0,
+        cells::of_fields((w / cells::P % 256) as u8, x.tag, x.num, t.c),
+    );
+    t.go
+}
+
+pub fn pop(cells: &mut [u64], log: &mut [u64], go: u32, top: u16) -> u32
+    requires { ⌜ Room (now log) 1 ⌝ }
+    ensures { λ r. ⌜ Did (Top top) 1 pop cells log go r tt ⌝ }
+{
+    own_restore(cells, log, go, top, limits::H0)
+}
+
+pub fn below(cells: &[u64], go: u32, c: u16, w: u64) -> Got
+    ensures { λ r. ⌜ Reads Always (below c (wordOf w)) cells go (r .go) (wordOf (r .x)) ⌝ }
+{
     let l = (w % 65536) as u16;
-    let g = word_at(cells, b, l);
+    let go = undo::refuse_if(go, l == 0, 25, c);
+    read_at(cells, go, l)
+}
+
+pub fn pops2(cells: &mut [u64], log: &mut [u64], go: u32, top: u16) -> u32
+    requires { ⌜ Room (now log) 2 ⌝ }
+    ensures { λ r. ⌜ Did (Top top) 2 (pops 2) cells log go r tt ⌝ }
+{
+    let go = pop(cells, log, go, top);
+    pop(cells, log, go, top)
+}
+
+pub fn pops3(cells: &mut [u64], log: &mut [u64], go: u32, top: u16) -> u32
+    requires { ⌜ Room (now log) 3 ⌝ }
+    ensures { λ r. ⌜ Did (Top top) 3 (pops 3) cells log go r tt ⌝ }
+{
+    let go = pop(cells, log, go, top);
+    pops2(cells, log, go, top)
+}
+
+// A pop and then a push of x, as one write, which is not logged.
+fn stays(cells: &mut [u64], log: &mut [u64], go: u32, top: u16, x: Symbol) -> u32
+    requires { ⌜ Room (now log) 0 ⌝ }
+    ensures { λ r. ⌜ Did (Top top) 0 (stays x) cells log go r tt ⌝ }
+{
+    let w = own(cells, limits::H0);
+    let go = has_below(go, limits::H0, w);
+    let l = (w % 65536) as u16;
+    let g = word_at(cells, go, l);
     let v = g.x;
-    let d = g.go;
-    let e = undo::refuse_if(d, q1_for_hw(limits::H0, v), Refusal::WrongKind(l));
-    let go = undo::refuse_if(e, reserved(top, l), Refusal::NotToBeFreed(l));
-    let z = cells::of_fields((v / cells::P % 256) as u8, x.tag, x.num, l);
-    undo::put(cells, log, go, limits::H0, z);
+    let go = undo::refuse_if(g.go, q1_for_hw(limits::H0, v), 23, l);
+    let go = undo::refuse_if(go, reserved(top, l), 24, l);
+    undo::put(
+        cells,
+        log,
+        go,
+        limits::H0,
+        cells::of_fields((v / cells::P % 256) as u8, x.tag, x.num, l),
+    );
     go
 }
 
 // In a sound store H2 is a word, and the cell that is freed is taken again.
-pub fn gives1(cells: &mut [u64], log: &mut [u64], a: Acted, top: u16, x: Symbol) -> Acted
-    requires { ⌜ Room (now log) 6 ⌝ }
-    ensures { λ r. ⌜ Did (Top top) 6 (gives 1 x) (now (cells .entry)) (now (log .entry)) a (now (cells .exit)) (now (log .exit)) r tt ⌝ }
+pub fn gives1(cells: &mut [u64], log: &mut [u64], go: u32, top: u16, x: Symbol) -> u32
+    requires { ⌜ Room (now log) 2 ⌝ }
+    ensures { λ r. ⌜ Did (Top top) 2 (gives 1 x) cells log go r tt ⌝ }
 {
     if cells::is_word(cells::peek(cells, limits::H2)) {
-        return stays(cells, log, a, top, x);
+        return stays(cells, log, go, top, x);
     }
-    let b = pop(cells, log, a, top);
-    push(cells, log, b, x)
+    let go = pop(cells, log, go, top);
+    push(cells, log, go, x)
 }
 
-pub fn gives3(cells: &mut [u64], log: &mut [u64], a: Acted, top: u16, x: Symbol) -> Acted
-    requires { ⌜ Room (now log) 12 ⌝ }
-    ensures { λ r. ⌜ Did (Top top) 12 (gives 3 x) (now (cells .entry)) (now (log .entry)) a (now (cells .exit)) (now (log .exit)) r tt ⌝ }
+pub fn gives3(cells: &mut [u64], log: &mut [u64], go: u32, top: u16, x: Symbol) -> u32
+    requires { ⌜ Room (now log) 4 ⌝ }
+    ensures { λ r. ⌜ Did (Top top) 4 (gives 3 x) cells log go r tt ⌝ }
 {
-    let b = pop(cells, log, a, top);
-    let d = pop(cells, log, b, top);
-    gives1(cells, log, d, top, x)
+    let go = pop(cells, log, go, top);
+    let go = pop(cells, log, go, top);
+    gives1(cells, log, go, top, x)
 }
 
-pub fn symbol_in(cells: &[u64], a: Acted, c: u16) -> GotSymbol
-    ensures { λ r. ⌜ Reads Always (symbolIn c) (now (cells .entry)) a (r .go) (r .x) ⌝ }
+pub fn symbol_in(cells: &[u64], go: u32, c: u16) -> GotSymbol
+    ensures { λ r. ⌜ Reads Always (symbolIn c) cells go (r .go) (r .x) ⌝ }
 {
-    let g = read_at(cells, a, c);
-    let go = g.go;
+    let g = read_at(cells, go, c);
     let x = cells::symbol(g.x);
-    GotSymbol { go: go, x: x }
+    GotSymbol { go: g.go, x: x }
 }
 
-pub fn symbol_in_that(cells: &[u64], a: Acted, c: u16) -> GotSymbol
-    ensures { λ r. ⌜ Reads Always (symbolInThat c) (now (cells .entry)) a (r .go) (r .x) ⌝ }
+pub fn symbol_in_that(cells: &[u64], go: u32, c: u16) -> GotSymbol
+    ensures { λ r. ⌜ Reads Always (symbolInThat c) cells go (r .go) (r .x) ⌝ }
 {
-    let g = read_at(cells, a, c);
-    let b = g.go;
-    let w = g.x;
-    symbol_in(cells, b, (w / cells::SYMB % 65536) as u16)
+    let g = read_at(cells, go, c);
+    symbol_in(cells, g.go, (g.x / cells::SYMB % 65536) as u16)
 }
 
-pub fn designate(cells: &[u64], a: Acted, top: u16, q: u8, c: u16) -> GotSymbol
-    ensures { λ r. ⌜ Reads (Top top) (designate q c) (now (cells .entry)) a (r .go) (r .x) ⌝ }
+pub fn designate(cells: &[u64], go: u32, top: u16, q: u8, c: u16) -> GotSymbol
+    ensures { λ r. ⌜ Reads (Top top) (designate q c) cells go (r .go) (r .x) ⌝ }
 {
     if q == 0 {
         let x = name_of(top, c);
-        return GotSymbol { go: a, x: x };
+        return GotSymbol { go: go, x: x };
     }
     if q == 1 {
-        return symbol_in(cells, a, c);
+        return symbol_in(cells, go, c);
     }
-    symbol_in_that(cells, a, c)
+    symbol_in_that(cells, go, c)
+}
+
+// H5: J4 for plus, J3 for minus.
+fn sign(plus: bool) -> Symbol
+    ensures { λ r. ⌜ r ≡ sign plus ⌝ }
+{
+    if plus {
+        return Symbol::regional(limits::J4);
+    }
+    Symbol::regional(limits::J3)
+}
+
+pub fn set_h5(cells: &mut [u64], log: &mut [u64], go: u32, plus: bool)
+    requires { ⌜ Room (now log) 0 ⌝ }
+    ensures { λ _. ⌜ Did Always 0 (setH5 plus) cells log go go tt ⌝ }
+{
+    own_store(cells, log, go, limits::H5, sign(plus));
+}
+
+pub fn tests1(cells: &mut [u64], log: &mut [u64], go: u32, top: u16, plus: bool) -> u32
+    requires { ⌜ Room (now log) 1 ⌝ }
+    ensures { λ r. ⌜ Did (Top top) 1 (tests 1 plus) cells log go r tt ⌝ }
+{
+    set_h5(cells, log, go, plus);
+    pop(cells, log, go, top)
+}
+
+pub fn tests2(cells: &mut [u64], log: &mut [u64], go: u32, top: u16, plus: bool) -> u32
+    requires { ⌜ Room (now log) 2 ⌝ }
+    ensures { λ r. ⌜ Did (Top top) 2 (tests 2 plus) cells log go r tt ⌝ }
+{
+    set_h5(cells, log, go, plus);
+    pops2(cells, log, go, top)
+}
+
+// "its name is local if X's tag was 2, else internal"
+pub fn copy_name(w: u64, n: u16) -> Symbol
+    ensures { λ r. ⌜ r ≡ copyName (wordOf w) n ⌝ }
+{
+    if w / cells::Q % 256 == 2 {
+        return Symbol::local(n);
+    }
+    Symbol::internal(n)
 }

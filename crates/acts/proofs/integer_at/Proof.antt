@@ -1,4 +1,4 @@
-use Rattle.undo.proofs.Readings.{reads-on, give-on}
+use Rattle.undo.proofs.Auto.{lines}
 use Rattle.paper.specs.Process.{integerAt}
 use borrow.Author.Needs.{needs}
 use Rattle.acts.proofs.integer_at.Statement.{statement}
@@ -6,7 +6,7 @@ use Rattle.acts.proofs.integer_at.Tie as tie
 
 returns : tie.Need-returns
 unfolding integerAt
-returns c = reads-on _ (c .term-at .ensures) give-on
+returns c = search lines depth 20
 
 pub integer-at-spec : {M : Type 1} → statement M
 integer-at-spec = tie.close (tie.spec (λ c κs. search needs) returns)

@@ -1,16 +1,20 @@
-use Rattle.undo.proofs.Lines.{reads, test}
+use Rattle.undo.proofs.Auto.{lines}
+use native.Mathlib.Omega.{arith}
 use Rattle.paper.specs.Act.{preserve}
+use Rattle.undo.proofs.Log.{writes-most}
 use borrow.Author.Needs.{needs}
 use Rattle.acts.proofs.preserve.Statement.{statement}
 use Rattle.acts.proofs.preserve.Tie as tie
 
+link-below-requires : tie.Need-link-below-requires
+link-below-requires c κs =
+    let c₁ = c .before .before .before .before .before .before .before in
+    record { fits = omega (arith, writes-most (c₁ .args .c)) }
+
 returns : tie.Need-returns
 unfolding preserve
-returns c =
-    let c₁ = c .before .before .before .before in
-    let c₂ = c₁ .before .before .before in
-    reads _ (c₂ .before .word-to .ensures) (test (c₂ .not-own .ensures) (c₁ .link-below .ensures))
+returns c = search lines depth 20
 
 pub preserve-spec : {M : Type 1} → statement M
 preserve-spec =
-    tie.close (tie.spec (λ c κs. search needs) (λ c κs. search needs) (λ c κs. search needs) (λ c. search needs) (λ c. search needs) returns)
+    tie.close (tie.spec (λ c κs. search needs) (λ c κs. search needs) link-below-requires (λ c. search needs) (λ c. search needs) returns)

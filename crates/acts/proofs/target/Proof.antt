@@ -1,3 +1,4 @@
+use Rattle.undo.proofs.Auto.{lines}
 use Rattle.paper.specs.Act.{target}
 use borrow.Author.Needs.{needs}
 use Rattle.acts.proofs.target.Statement.{statement}
@@ -5,7 +6,7 @@ use Rattle.acts.proofs.target.Tie as tie
 
 returns : tie.Need-returns
 unfolding target
-returns c = c .touch .ensures
+returns c = search lines depth 20
 
 pub target-spec : {M : Type 1} → statement M
 target-spec = tie.close (tie.spec (λ c κs. search needs) returns)
