@@ -1,4 +1,5 @@
 pub mod Once
 pub mod Net
 pub mod Auto
+pub mod Used
 pub mod Dispatch

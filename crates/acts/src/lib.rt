@@ -1,5 +1,6 @@
 // The small actions of a cycle, line by line the blocks of paper/specs/Act. Each takes the verdict so far, `go`, and does nothing where that
-// is a refusal. Reserved cells are those below `top`, where the deck regions end.
+// is a refusal. The smallest return at their first refusal; what is made of them carries `go`. Reserved cells are those below `top`, where
+// the deck regions end.
 ghost use Prim.Native.Nat.{_+_};
 ghost use mathlib.Core.Path.{_≡_};
 ghost use mathlib.Core.Bool.{_&&_, _||_};
@@ -48,9 +49,22 @@ pub fn own(cells: &[u64], c: u16) -> u64
 pub fn touch(cells: &[u64], go: u32, c: u16) -> Got
     ensures { λ r. ⌜ Reads Always (touch c) cells go (r .go) (unpackOf (r .x)) ⌝ }
 {
-    let go = undo::refuse_if(go, c == 0, 21, 0);
+    if go != 0 {
+        return Got { go: go, x: 0 };
+    }
+    if c == 0 {
+        return Got {
+            go: undo::refused(21, 0),
+            x: 0,
+        };
+    }
     let x = cells::peek(cells, c);
-    let go = undo::refuse_if(go, cells::is_free(x), 22, c);
+    if cells::is_free(x) {
+        return Got {
+            go: undo::refused(22, c),
+            x: 0,
+        };
+    }
     Got { go: go, x: x }
 }
 
@@ -61,48 +75,80 @@ pub fn target(cells: &[u64], go: u32, c: u16) -> Got
     touch(cells, go, c)
 }
 
+// The kind that is asked for is tested first: only where it is not found is it asked which refusal that is.
 pub fn word_at(cells: &[u64], go: u32, c: u16) -> Got
     ensures { λ r. ⌜ Reads Always (wordAt c) cells go (r .go) (wordOf (r .x)) ⌝ }
 {
-    let t = touch(cells, go, c);
-    let go = undo::refuse_if(t.go, !cells::is_word(t.x), 23, c);
+    if go != 0 {
+        return Got { go: go, x: 0 };
+    }
+    if c == 0 {
+        return Got {
+            go: undo::refused(21, 0),
+            x: 0,
+        };
+    }
+    let x = cells::peek(cells, c);
+    if cells::is_word(x) {
+        return Got {
+            go: go,
+            x: cells::word_in(x),
+        };
+    }
+    if cells::is_free(x) {
+        return Got {
+            go: undo::refused(22, c),
+            x: 0,
+        };
+    }
     Got {
-        go: go,
-        x: cells::word_in(t.x),
+        go: undo::refused(23, c),
+        x: 0,
     }
 }
 
+// A word or a term that an action writes is met as one that it reads.
 pub fn word_to(cells: &[u64], go: u32, c: u16) -> Got
     ensures { λ r. ⌜ Reads Always (wordTo c) cells go (r .go) (wordOf (r .x)) ⌝ }
 {
-    let t = target(cells, go, c);
-    let go = undo::refuse_if(t.go, !cells::is_word(t.x), 23, c);
-    Got {
-        go: go,
-        x: cells::word_in(t.x),
-    }
+    word_at(cells, go, c)
 }
 
 pub fn term_at(cells: &[u64], go: u32, c: u16) -> GotTerm
     ensures { λ r. ⌜ Reads Always (termAt c) cells go (r .go) (termOf (r .v)) ⌝ }
 {
-    let t = touch(cells, go, c);
-    let go = undo::refuse_if(t.go, !cells::is_term(t.x), 23, c);
+    if go != 0 {
+        return GotTerm { go: go, v: 0 };
+    }
+    if c == 0 {
+        return GotTerm {
+            go: undo::refused(21, 0),
+            v: 0,
+        };
+    }
+    let x = cells::peek(cells, c);
+    if cells::is_term(x) {
+        return GotTerm {
+            go: go,
+            v: cells::term_in(x),
+        };
+    }
+    if cells::is_free(x) {
+        return GotTerm {
+            go: undo::refused(22, c),
+            v: 0,
+        };
+    }
     GotTerm {
-        go: go,
-        v: cells::term_in(t.x),
+        go: undo::refused(23, c),
+        v: 0,
     }
 }
 
 pub fn term_to(cells: &[u64], go: u32, c: u16) -> GotTerm
     ensures { λ r. ⌜ Reads Always (termTo c) cells go (r .go) (termOf (r .v)) ⌝ }
 {
-    let t = target(cells, go, c);
-    let go = undo::refuse_if(t.go, !cells::is_term(t.x), 23, c);
-    GotTerm {
-        go: go,
-        v: cells::term_in(t.x),
-    }
+    term_at(cells, go, c)
 }
 
 // A term of the one sort is its integer.
@@ -129,18 +175,38 @@ pub fn named(cells: &[u64], go: u32, c: u16) -> Got
     ensures { λ r. ⌜ Reads Always (named c) cells go (r .go) (wordOf (r .x)) ⌝ }
 {
     let g = word_at(cells, go, c);
-    let go = not_own(g.go, c);
-    Got { go: go, x: g.x }
+    if g.go != 0 {
+        return g;
+    }
+    if is_own(c) {
+        return Got {
+            go: undo::refused(27, c),
+            x: 0,
+        };
+    }
+    g
 }
 
 pub fn read_at(cells: &[u64], go: u32, c: u16) -> Got
     ensures { λ r. ⌜ Reads Always (readAt c) cells go (r .go) (wordOf (r .x)) ⌝ }
 {
     let g = word_at(cells, go, c);
-    let w = g.x;
-    let go = undo::refuse_if(g.go, w / cells::Q % 256 == 1, 23, c);
-    let go = not_own(go, c);
-    Got { go: go, x: w }
+    if g.go != 0 {
+        return g;
+    }
+    if g.x / cells::Q % 256 == 1 {
+        return Got {
+            go: undo::refused(23, c),
+            x: 0,
+        };
+    }
+    if is_own(c) {
+        return Got {
+            go: undo::refused(27, c),
+            x: 0,
+        };
+    }
+    g
 }
 
 pub fn reserved(top: u16, c: u16) -> bool
@@ -169,11 +235,25 @@ pub fn take_as(cells: &mut [u64], log: &mut [u64], go: u32, y: u64) -> GotCell
     requires { ⌜ Room (now log) 1 × (packOf (unpackOf y) ≡ y) ⌝ }
     ensures { λ r. ⌜ Did Always 1 (takeAs (unpackOf y)) cells log go (r .go) (r .c) ⌝ }
 {
+    if go != 0 {
+        return GotCell { go: go, c: 0 };
+    }
     let h = own(cells, limits::H2);
     let f = (h % 65536) as u16;
-    let go = undo::refuse_if(go, f == 0, 26, 0);
+    if f == 0 {
+        return GotCell {
+            go: undo::refused(26, 0),
+            c: 0,
+        };
+    }
     let x = cells::peek(cells, f);
-    undo::put(cells, log, go, limits::H2, cells::with_link(h, cells::free_link(x)));
+    undo::put(
+        cells,
+        log,
+        go,
+        limits::H2,
+        cells::with_link(h, cells::free_link(x)),
+    );
     undo::put(cells, log, go, f, y);
     GotCell { go: go, c: f }
 }
@@ -208,9 +288,17 @@ pub fn preserve(cells: &mut [u64], log: &mut [u64], go: u32, c: u16) -> u32
 pub fn has_below(go: u32, c: u16, w: u64) -> u32
     ensures { λ r. ⌜ Judged (hasBelow c (wordOf w)) go r ⌝ }
 {
+    if go != 0 {
+        return go;
+    }
     let l = (w % 65536) as u16;
-    let go = undo::refuse_if(go, l == c, 24, c);
-    undo::refuse_if(go, l == 0, 25, c)
+    if l == c {
+        return undo::refused(24, c);
+    }
+    if l == 0 {
+        return undo::refused(25, c);
+    }
+    go
 }
 
 // A Q 1 word that would come into an H or W cell.
@@ -226,8 +314,16 @@ pub fn pull_up(cells: &mut [u64], log: &mut [u64], go: u32, top: u16, c: u16, be
 {
     let g = word_at(cells, go, below);
     let v = g.x;
-    let go = undo::refuse_if(g.go, q1_for_hw(c, v), 23, below);
-    let go = undo::refuse_if(go, reserved(top, below), 24, below);
+    let go = g.go;
+    if go != 0 {
+        return go;
+    }
+    if q1_for_hw(c, v) {
+        return undo::refused(23, below);
+    }
+    if reserved(top, below) {
+        return undo::refused(24, below);
+    }
     undo::put(cells, log, go, c, cells::of_word(v));
     release(cells, log, go, below);
     go
@@ -306,8 +402,16 @@ pub fn pop(cells: &mut [u64], log: &mut [u64], go: u32, top: u16) -> u32
 pub fn below(cells: &[u64], go: u32, c: u16, w: u64) -> Got
     ensures { λ r. ⌜ Reads Always (below c (wordOf w)) cells go (r .go) (wordOf (r .x)) ⌝ }
 {
+    if go != 0 {
+        return Got { go: go, x: 0 };
+    }
     let l = (w % 65536) as u16;
-    let go = undo::refuse_if(go, l == 0, 25, c);
+    if l == 0 {
+        return Got {
+            go: undo::refused(25, c),
+            x: 0,
+        };
+    }
     read_at(cells, go, l)
 }
 
@@ -337,8 +441,16 @@ fn stays(cells: &mut [u64], log: &mut [u64], go: u32, top: u16, x: Symbol) -> u3
     let l = (w % 65536) as u16;
     let g = word_at(cells, go, l);
     let v = g.x;
-    let go = undo::refuse_if(g.go, q1_for_hw(limits::H0, v), 23, l);
-    let go = undo::refuse_if(go, reserved(top, l), 24, l);
+    let go = g.go;
+    if go != 0 {
+        return go;
+    }
+    if q1_for_hw(limits::H0, v) {
+        return undo::refused(23, l);
+    }
+    if reserved(top, l) {
+        return undo::refused(24, l);
+    }
     undo::put(
         cells,
         log,

@@ -1,5 +1,5 @@
 -- Laws that the proofs share.
-pub mod DidLaws
+pub mod Verdict
+pub mod Lines
 pub mod KeptLaws
-pub mod RegionLaws
 pub mod StepLaws

@@ -3,10 +3,12 @@ use Prim.Native.Nat.{ℕ, _*_, _^_, _<_, _≤_}
 use mathlib.Core.Bool.{Bool, true, false}
 use mathlib.Core.List.{List}
 use mathlib.Core.Path.{_≡_, refl, ap, sym, _∙_}
+use mathlib.Core.Option.{Option}
 use borrow.Author.Tests.{ltb-true, ltb-false}
 use lib.Dec.{ltb}
 use lib.ListN.{set, replicate}
 use lib.Seq.{set-getD}
+use Rattle.paper.specs.declared.Fault.{Fault}
 use Rattle.paper.specs.Limits.{manyLocals}
 use Rattle.paper.specs.Cell.{Region, Cell, free, word, withLink, emptyWord, freeLink}
 use Rattle.paper.specs.Step.{becomes}
@@ -16,16 +18,16 @@ use Rattle.cells.specs.Pack.{Packs}
 use Rattle.cells.specs.Bridge.{unpacked, cellIn}
 use Rattle.cells.proofs.Laws.{unpack-word, unpack-free, unpack-term, unpack-process}
 use Rattle.cells.proofs.Store.{unpacked-set, formed-set}
+use Rattle.steps.specs.Follows.{Follows, Always}
 use Rattle.book.specs.declared.Notes.{Notes}
-use Rattle.book.specs.declared.Judged.{Judged}
 use Rattle.book.specs.Kept.{Held, held, bookOf, localsOf, localNoted, structureNoted, waitingNoted}
-use Rattle.book.specs.Did.{Did}
-use Rattle.book.proofs.DidLaws.{changes}
+use Rattle.book.specs.Booked.{loading}
+use Rattle.book.proofs.Lines.{changes}
 use Rattle.book.proofs.KeptLaws.{local-set}
 
 -- a local is noted
-pub notes-local : (n c : ℕ) (w : Bool) {h : Held} {k : Notes} {a : Judged} → k ≡ localNoted (h .notes) n c w
-    → Did (becomes (withLocal n c w)) h a (held (h .regions) k (h .numbers) (h .names)) a tt
+pub notes-local : (n c : ℕ) (w : Bool) {h : Held} {k : Notes} {a : Option Fault} → k ≡ localNoted (h .notes) n c w
+    → Follows loading Always 0 (becomes (withLocal n c w)) h a (held (h .regions) k (h .numbers) (h .names)) a tt
 notes-local n c w {h} {k} e =
     changes (withLocal n c w) h (held (h .regions) k (h .numbers) (h .names))
     (rw (e, local-set (h .notes .locals) (h .notes .filled) n c w)) (λ f. f)
@@ -35,19 +37,19 @@ pub no-locals : localsOf (replicate manyLocals 0) (replicate manyLocals false) �
 unfolding localsOf
 no-locals = refl
 
-pub opens-structure : (c : ℕ) {rs : List Region} {k k′ : Notes} {s : List ℕ} {m m′ : List Bool} {a : Judged} → k′ ≡ structureNoted k
+pub opens-structure : (c : ℕ) {rs : List Region} {k k′ : Notes} {s : List ℕ} {m m′ : List Bool} {a : Option Fault} → k′ ≡ structureNoted k
     → m′ ≡ set m c true
-    → Did (becomes (withStructure c)) (held rs k s m) a (held rs k′ s m′) a tt
+    → Follows loading Always 0 (becomes (withStructure c)) (held rs k s m) a (held rs k′ s m′) a tt
 opens-structure c {rs} {k} {k′} {s} {m} {m′} e f = changes (withStructure c) (held rs k s m) (held rs k′ s m′) (rw (e, f, no-locals)) (λ g. g)
 
 -- a word has come, and its cell waits or none does
-pub waits : (w : ℕ) {h : Held} {k : Notes} {a : Judged} → k ≡ waitingNoted (h .notes) w
-    → Did (becomes (withWaiting w)) h a (held (h .regions) k (h .numbers) (h .names)) a tt
+pub waits : (w : ℕ) {h : Held} {k : Notes} {a : Option Fault} → k ≡ waitingNoted (h .notes) w
+    → Follows loading Always 0 (becomes (withWaiting w)) h a (held (h .regions) k (h .numbers) (h .names)) a tt
 waits w {h} {k} e = changes (withWaiting w) h (held (h .regions) k (h .numbers) (h .names)) (rw e) (λ f. f)
 
 -- a number is stored
-pub puts : (c x : ℕ) {y : Cell} {rs : List Region} {k : Notes} {s s′ : List ℕ} {m : List Bool} {a : Judged} → s′ ≡ set s c x → Packs x y
-    → Did (putCell c y) (held rs k s m) a (held rs k s′ m) a tt
+pub puts : (c x : ℕ) {y : Cell} {rs : List Region} {k : Notes} {s s′ : List ℕ} {m : List Bool} {a : Option Fault} → s′ ≡ set s c x → Packs x y
+    → Follows loading Always 0 (putCell c y) (held rs k s m) a (held rs k s′ m) a tt
 unfolding putCell
 puts c x {y} {rs} {k} {s} {s′} {m} e p =
     changes _ (held rs k s m) (held rs k s′ m)
@@ -63,16 +65,16 @@ other-kind c x h = go (ltb x (2 * 2 ^ 48)) (ltb x (3 * 2 ^ 48)) refl refl
     go false true p q = rw (unpack-term x (ltb-false x (2 * 2 ^ 48) p) (ltb-true x (3 * 2 ^ 48) q))
     go false false p q = rw (unpack-process x (ltb-false x (3 * 2 ^ 48) q))
 
-module _ {rs : List Region} {k : Notes} {m : List Bool} {a : Judged} where
+module _ {rs : List Region} {k : Notes} {m : List Bool} {a : Option Fault} where
   pub links : (w c x y : ℕ) {s s′ : List ℕ} → s′ ≡ set s w y → cellIn s w ≡ unpackOf x → x < 2 ^ 48 → Packs y (word (withLink (wordOf x) c))
-      → Did (linkUp w c) (held rs k s m) a (held rs k s′ m) a tt
+      → Follows loading Always 0 (linkUp w c) (held rs k s m) a (held rs k s′ m) a tt
   unfolding linkUp cellIn
   links w c x y {s} {s′} e g h p =
       changes _ (held rs k s m) (held rs k s′ m)
       (ap (λ (cs : List Cell). withCells (bookOf (held rs k s m)) cs) (rw (g, unpack-word x h, e, unpacked-set s w y, p .unpacks)))
       (λ f. rw e (formed-set s w y (p .formed) f))
 
-  pub links-not : (w c x : ℕ) {s : List ℕ} → cellIn s w ≡ unpackOf x → 2 ^ 48 ≤ x → Did (linkUp w c) (held rs k s m) a (held rs k s m) a tt
+  pub links-not : (w c x : ℕ) {s : List ℕ} → cellIn s w ≡ unpackOf x → 2 ^ 48 ≤ x → Follows loading Always 0 (linkUp w c) (held rs k s m) a (held rs k s m) a tt
   unfolding linkUp cellIn
   links-not w c x {s} g h =
       changes _ (held rs k s m) (held rs k s m)
@@ -87,10 +89,10 @@ empty-is : unpackOf 0x400000000 ≡ word (emptyWord 0)
 unfolding unpackOf
 empty-is = refl
 
-module _ {rs : List Region} {k : Notes} {m : List Bool} {a : Judged} where
+module _ {rs : List Region} {k : Notes} {m : List Bool} {a : Option Fault} where
   pub takes : (x y z n : ℕ) {s s₁ s₂ : List ℕ} → s₁ ≡ set s 3 y → s₂ ≡ set s₁ (linkOf x) 0x400000000 → Packs y (word (withLink (wordOf x) n))
       → cellIn s (linkOf x) ≡ unpackOf z → freeLink (unpackOf z) ≡ n
-      → Did (becomes (λ b. withCells b (tookFirst (b .cells) (wordOf x)))) (held rs k s m) a (held rs k s₂ m) a tt
+      → Follows loading Always 0 (becomes (λ b. withCells b (tookFirst (b .cells) (wordOf x)))) (held rs k s m) a (held rs k s₂ m) a tt
   unfolding cellIn unpackOf
   takes x y z n {s} {s₁} {s₂} one two p g f =
       changes _ (held rs k s m) (held rs k s₂ m)

@@ -1,15 +1,15 @@
 -- What the code keeps while it loads, as the book of the definitions.
-use Prim.Native.Nat.{ℕ, _≤_}
+use Prim.Native.Nat.{ℕ}
 use mathlib.Core.Bool.{Bool, true, false}
 use mathlib.Core.List.{List, [], _∷_}
 use mathlib.Core.Path.{_≡_}
 use lib.ListN.{set, replicate}
-use Rattle.paper.specs.Limits.{largestN, firstDeck, manyLocals}
-use Rattle.paper.specs.Cell.{Region, endOfRegions}
+use Rattle.paper.specs.Limits.{manyLocals}
+use Rattle.paper.specs.Cell.{Region}
 use Rattle.paper.specs.Deck.{LocalCell, Book}
 use Rattle.cells.specs.Bridge.{unpacked}
-use Rattle.sound.specs.declared.Regions.{Regions}
-use Rattle.sound.specs.Table.{regionsOf}
+use Rattle.regions.specs.declared.Regions.{Regions}
+use Rattle.regions.specs.Table.{regionsOf}
 use Rattle.book.specs.declared.Notes.{Notes}
 
 -- the locals by number, from their cells and from whether they have a word
@@ -53,10 +53,6 @@ structureNoted k = record { words = true; opened = true; waiting = k .waiting; l
 
 abbrev pub waitingNoted : Notes → ℕ → Notes
 waitingNoted k w = record { words = true; opened = k .opened; waiting = w; locals = k .locals; filled = k .filled }
-
--- the table's regions end within 16,384 cells
-pub record Laid (r : Regions) : Type 0 where
-  pub ends : endOfRegions (regionsOf r) firstDeck ≤ largestN
 
 -- what a test knows of the book
 abbrev pub RegionsAre : Regions → Book → Type 0

@@ -1,3 +1,4 @@
--- What the code keeps while it loads, and what its contracts say.
+-- What the code keeps while it loads, its verdict, and what its contracts say.
 pub mod Kept
-pub mod Did
+pub mod Verdict
+pub mod Booked

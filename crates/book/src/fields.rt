@@ -2,16 +2,17 @@
 ghost use mathlib.Core.Path.{_≡_};
 ghost use Rattle.paper.specs.Deck.{dataTag, isBlank};
 use paper::Field;
+use paper::Symbol;
 
 // "P 0, Q 0 or 2 as SYMB is regional or local"; "a blank or `0` data SYMB makes an empty word"
 pub fn data_tag(f: Field) -> u8
     ensures { λ r. ⌜ r ≡ dataTag f ⌝ }
 {
     match f {
-        Field::Regional(_, _) => 0,
-        Field::Local(_) => 2,
-        Field::Zero => 4,
-        Field::Blank => 4,
+        Field::Regional(_, _) => Symbol::REGIONAL,
+        Field::Local(_) => Symbol::LOCAL,
+        Field::Zero => Symbol::INTERNAL,
+        Field::Blank => Symbol::INTERNAL,
     }
 }
 

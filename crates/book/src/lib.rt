@@ -1,6 +1,8 @@
-// What the loader keeps, and its small steps: document 01, "The deck".
+// What the loader keeps, and its small steps: document 01, "The deck". Its verdict is one number, `go`: 0, or the answer number of a fault.
 ghost use mathlib.Core.Path.{_≡_};
 ghost use mathlib.Core.Bool.{cond};
+ghost use mathlib.Core.Option.{some};
+ghost use Prim.Native.Nat.{ℕ, _<_};
 ghost use lib.Dec.{eqb};
 ghost use lib.ListN.{set};
 ghost use Rattle.paper.specs.Cell.{Cell};
@@ -8,15 +10,16 @@ ghost use Rattle.cells.specs.Pack.{Packs};
 ghost use Rattle.paper.specs.Step.{refuseIf, ret, ifThen};
 ghost use Rattle.paper.specs.Record.{inRegion, asLocal};
 ghost use Rattle.paper.specs.Deck.{localAt, allWords, takeCell, newLocal, mention, known, nameFits, closes, cellFor, cellNamed, linkUp, fill};
-ghost use Rattle.book.specs.declared.Notes.{Notes};
-ghost use Rattle.book.specs.declared.Judged.{Judged};
+ghost use Rattle.steps.specs.Follows.{Always};
+ghost use Rattle.regions.specs.Table.{Laid};
 ghost use Rattle.records.specs.Symbols.{nameOf};
-ghost use Rattle.book.specs.Kept.{localsOf, noNotes, localNoted, structureNoted, Laid, RegionsAre, LocalsAre, NotedIn};
-ghost use Rattle.book.specs.Did.{refusedBy, Always, Told, OnCells, OnNotes, OnTable, OnNames, OnAll};
+ghost use Rattle.book.specs.declared.Notes.{Notes};
+ghost use Rattle.book.specs.Kept.{localsOf, noNotes, localNoted, structureNoted, RegionsAre, LocalsAre, NotedIn};
+ghost use Rattle.book.specs.Verdict.{faultBy, toldFault};
+ghost use Rattle.book.specs.Booked.{Told, OnCells, OnNotes, OnTable, OnNames, OnAll};
 
 mod fields;
 mod names;
-mod regions;
 
 pub use fields::data_tag;
 pub use fields::is_blank;
@@ -26,14 +29,7 @@ use paper::Fault;
 use paper::Field;
 use paper::limits;
 use records::Name;
-pub use regions::cell_of;
-use sound::Regions;
-
-// Whether loading goes on, or why not.
-pub enum Judged {
-    Fine,
-    Refused(Fault),
-}
+use regions::Regions;
 
 // Whether a word has come and whether a structure is open, the cell whose blank LINK the next record fills, and of each local its cell and
 // whether it has a word.
@@ -47,33 +43,44 @@ pub struct Notes {
 
 // What a step comes to. What it writes after a refusal does not count: a refused load zeroes every cell.
 pub struct Taken {
-    pub go: Judged,
+    pub go: u8,
     pub c: u16,
 }
 
 pub struct Got {
-    pub go: Judged,
+    pub go: u8,
     pub notes: Notes,
     pub c: u16,
 }
 
-fn refused(a: Judged, f: Fault) -> Judged
-    ensures { λ r. ⌜ r ≡ refusedBy a f ⌝ }
-{
-    match a {
-        Judged::Fine => Judged::Refused(f),
-        Judged::Refused(e) => Judged::Refused(e),
-    }
-}
-
-// Refused, unless it was before.
-pub fn refuse_if(a: Judged, b: bool, f: Fault) -> Judged
-    ensures { λ r. ⌜ Told Always (refuseIf b f) a r ⌝ }
+// A test: the answer number where b holds, unless there was a fault before.
+pub fn refuse_if(go: u8, b: bool, number: u8) -> u8
+    requires { ⌜ 0 < number ⌝ }
+    ensures { λ r. ⌜ Told Always (refuseIf b (faultBy number)) go r ⌝ }
 {
     if b {
-        return refused(a, f);
+        if go == 0 {
+            return number;
+        }
     }
-    a
+    go
+}
+
+// A fault as the answer of a load has it.
+pub fn fault(go: u8) -> Fault
+    requires { ⌜ 0 < go ⌝ }
+    ensures { λ r. ⌜ toldFault go ≡ some r ⌝ }
+{
+    match go {
+        2 => Fault::PastEnd,
+        3 => Fault::UnknownKind,
+        4 => Fault::BadField,
+        5 => Fault::BadRegion,
+        6 => Fault::BadName,
+        7 => Fault::NoWord,
+        8 => Fault::NoCell,
+        _ => Fault::NotEnded,
+    }
 }
 
 pub fn put(cells: &mut [u64], c: u16, x: u64)
@@ -160,56 +167,54 @@ impl Notes {
 }
 
 // "cells come from its front"
-fn take_cell(cells: &mut [u64], a: Judged) -> Taken
-    ensures { λ r. ⌜ OnCells takeCell (now (cells .entry)) a (now (cells .exit)) (r .go) (r .c) ⌝ }
+fn take_cell(cells: &mut [u64], go: u8) -> Taken
+    ensures { λ r. ⌜ OnCells takeCell cells go (r .go) (r .c) ⌝ }
 {
     let h = cells::word_in(cells::peek(cells, limits::H2));
     let c = (h % 65536) as u16;
-    let go = refuse_if(a, c == 0, Fault::NoCell);
+    let go = refuse_if(go, c == 0, 8);
     let next = cells::free_link(cells::peek(cells, c));
     put(cells, limits::H2, cells::with_link(h, next));
     put(cells, c, cells::EMPTY);
     Taken { go: go, c: c }
 }
 
-fn new_local(cells: &mut [u64], notes: Notes, a: Judged, n: u16) -> Got
-    ensures { λ r. ⌜ OnNotes (newLocal n) notes (now (cells .entry)) a (r .notes) (now (cells .exit)) (r .go) (r .c) ⌝ }
+fn new_local(cells: &mut [u64], notes: Notes, go: u8, n: u16) -> Got
+    ensures { λ r. ⌜ OnNotes (newLocal n) notes cells go (r .notes) (r .go) (r .c) ⌝ }
 {
-    let t = take_cell(cells, a);
-    let c = t.c;
-    let go = t.go;
+    let t = take_cell(cells, go);
     Got {
-        go: go,
-        notes: notes.with_local(n, c, false),
-        c: c,
+        go: t.go,
+        notes: notes.with_local(n, t.c, false),
+        c: t.c,
     }
 }
 
 // "locals .. get a cell at first mention"
-fn mention(cells: &mut [u64], notes: Notes, a: Judged, n: u16) -> Got
-    ensures { λ r. ⌜ OnNotes (mention n) notes (now (cells .entry)) a (r .notes) (now (cells .exit)) (r .go) (r .c) ⌝ }
+fn mention(cells: &mut [u64], notes: Notes, go: u8, n: u16) -> Got
+    ensures { λ r. ⌜ OnNotes (mention n) notes cells go (r .notes) (r .go) (r .c) ⌝ }
 {
     let c = notes.local_cell(n);
     if c == 0 {
-        return new_local(cells, notes, a, n);
+        return new_local(cells, notes, go, n);
     }
     Got {
-        go: a,
+        go: go,
         notes: notes,
         c: c,
     }
 }
 
 // "any regional symbol outside its region or of an undeclared one"
-pub fn known(regions: Regions, a: Judged, f: Field) -> Judged
+pub fn known(regions: Regions, go: u8, f: Field) -> u8
     requires { ⌜ Laid regions ⌝ }
-    ensures { λ r. ⌜ Told (RegionsAre regions) (known f) a r ⌝ }
+    ensures { λ r. ⌜ Told (RegionsAre regions) (known f) go r ⌝ }
 {
     match f {
-        Field::Regional(b, n) => refuse_if(a, cell_of(regions, b, n) == 0, Fault::BadName),
-        Field::Local(_) => a,
-        Field::Zero => a,
-        Field::Blank => a,
+        Field::Regional(b, n) => refuse_if(go, regions.cell_of(b, n) == 0, 6),
+        Field::Local(_) => go,
+        Field::Zero => go,
+        Field::Blank => go,
     }
 }
 
@@ -219,54 +224,43 @@ pub fn name_fits(
     names: &[bool],
     regions: Regions,
     notes: Notes,
-    a: Judged,
+    go: u8,
     word: bool,
     name: Name,
-) -> Judged
+) -> u8
     requires { ⌜ Laid regions ⌝ }
-    ensures { λ r. ⌜ Told (NotedIn regions notes (now (names .entry))) (nameFits word (nameOf name)) a r ⌝ }
+    ensures { λ r. ⌜ Told (NotedIn regions notes (now (names .entry))) (nameFits word (nameOf name)) go r ⌝ }
 {
     let w = notes.waiting;
     match name {
         Name::Regional(b, n) => {
-            let c = cell_of(regions, b, n);
-            refuse_if(
-                a,
-                (w != 0) | (c < limits::FIRST_DECK) | named(names, c),
-                Fault::BadName,
-            )
+            let c = regions.cell_of(b, n);
+            refuse_if(go, (w != 0) | (c < limits::FIRST_DECK) | named(names, c), 6)
         }
         Name::Local(n) => {
             refuse_if(
-                a,
+                go,
                 ((w != 0) & !word) | !notes.opened | notes.has_word(n),
-                Fault::BadName,
+                6,
             )
         }
-        Name::Blank => refuse_if(a, (w == 0) | !word, Fault::BadName),
+        Name::Blank => refuse_if(go, (w == 0) | !word, 6),
     }
 }
 
 // "A structure ends at the next such regional NAME or at kind 5."
-pub fn closes(notes: Notes, a: Judged) -> Judged
-    ensures { λ r. ⌜ Told (LocalsAre notes) closes a r ⌝ }
+pub fn closes(notes: Notes, go: u8) -> u8
+    ensures { λ r. ⌜ Told (LocalsAre notes) closes go r ⌝ }
 {
-    refuse_if(a, !notes.all_words(), Fault::NoWord)
+    refuse_if(go, !notes.all_words(), 7)
 }
 
-fn open_structure(
-    names: &mut [bool],
-    regions: Regions,
-    notes: Notes,
-    a: Judged,
-    b: u8,
-    n: u16,
-) -> Got
+fn open_structure(names: &mut [bool], regions: Regions, notes: Notes, go: u8, b: u8, n: u16) -> Got
     requires { ⌜ Laid regions ⌝ }
-    ensures { λ r. ⌜ OnNames (cellFor (inRegion b n)) regions notes (now (names .entry)) a (r .notes) (now (names .exit)) (r .go) (r .c) ⌝ }
+    ensures { λ r. ⌜ OnNames (cellFor (inRegion b n)) regions notes names go (r .notes) (r .go) (r .c) ⌝ }
 {
-    let go = closes(notes, a);
-    let c = cell_of(regions, b, n);
+    let go = closes(notes, go);
+    let c = regions.cell_of(b, n);
     mark(names, c);
     Got {
         go: go,
@@ -275,17 +269,15 @@ fn open_structure(
     }
 }
 
-fn define_local(cells: &mut [u64], notes: Notes, a: Judged, n: u16) -> Got
-    ensures { λ r. ⌜ OnNotes (cellFor (asLocal n)) notes (now (cells .entry)) a (r .notes) (now (cells .exit)) (r .go) (r .c) ⌝ }
+fn define_local(cells: &mut [u64], notes: Notes, go: u8, n: u16) -> Got
+    ensures { λ r. ⌜ OnNotes (cellFor (asLocal n)) notes cells go (r .notes) (r .go) (r .c) ⌝ }
 {
-    let g = mention(cells, notes, a, n);
-    let c = g.c;
-    let go = g.go;
+    let g = mention(cells, notes, go, n);
     let k = g.notes;
     Got {
-        go: go,
-        notes: k.with_local(n, c, true),
-        c: c,
+        go: g.go,
+        notes: k.with_local(n, g.c, true),
+        c: g.c,
     }
 }
 
@@ -295,21 +287,19 @@ pub fn cell_for(
     names: &mut [bool],
     regions: Regions,
     notes: Notes,
-    a: Judged,
+    go: u8,
     name: Name,
 ) -> Got
     requires { ⌜ Laid regions ⌝ }
-    ensures { λ r. ⌜ OnAll (cellFor (nameOf name)) regions notes (now (cells .entry)) (now (names .entry)) a
-        (r .notes) (now (cells .exit)) (now (names .exit)) (r .go) (r .c) ⌝ }
+    ensures { λ r. ⌜ OnAll (cellFor (nameOf name)) regions notes cells names go (r .notes) (r .go) (r .c) ⌝ }
 {
     match name {
-        Name::Regional(b, n) => open_structure(names, regions, notes, a, b, n),
-        Name::Local(n) => define_local(cells, notes, a, n),
+        Name::Regional(b, n) => open_structure(names, regions, notes, go, b, n),
+        Name::Local(n) => define_local(cells, notes, go, n),
         Name::Blank => {
-            let t = take_cell(cells, a);
-            let go = t.go;
+            let t = take_cell(cells, go);
             Got {
-                go: go,
+                go: t.go,
                 notes: notes,
                 c: t.c,
             }
@@ -318,24 +308,24 @@ pub fn cell_for(
 }
 
 // The cell that a SYMB or LINK names.
-pub fn cell_named(cells: &mut [u64], regions: Regions, notes: Notes, a: Judged, f: Field) -> Got
+pub fn cell_named(cells: &mut [u64], regions: Regions, notes: Notes, go: u8, f: Field) -> Got
     requires { ⌜ Laid regions ⌝ }
-    ensures { λ r. ⌜ OnTable (cellNamed f) regions notes (now (cells .entry)) a (r .notes) (now (cells .exit)) (r .go) (r .c) ⌝ }
+    ensures { λ r. ⌜ OnTable (cellNamed f) regions notes cells go (r .notes) (r .go) (r .c) ⌝ }
 {
     match f {
         Field::Regional(b, n) => Got {
-            go: a,
+            go: go,
             notes: notes,
-            c: cell_of(regions, b, n),
+            c: regions.cell_of(b, n),
         },
-        Field::Local(n) => mention(cells, notes, a, n),
+        Field::Local(n) => mention(cells, notes, go, n),
         Field::Zero => Got {
-            go: a,
+            go: go,
             notes: notes,
             c: 0,
         },
         Field::Blank => Got {
-            go: a,
+            go: go,
             notes: notes,
             c: 0,
         },
@@ -344,7 +334,7 @@ pub fn cell_named(cells: &mut [u64], regions: Regions, notes: Notes, a: Judged, 
 
 // "A blank LINK means the next record's cell": the cell w, if there is one that waits, gets the LINK c.
 fn link_up(cells: &mut [u64], w: u16, c: u16)
-    ensures { λ _. ⌜ ((a : Judged) → OnCells (ifThen (eqb w 0) (ret tt) (linkUp w c)) (now (cells .entry)) a (now (cells .exit)) a tt) ⌝ }
+    ensures { λ _. ⌜ ((go : ℕ) → OnCells (ifThen (eqb w 0) (ret tt) (linkUp w c)) cells go go tt) ⌝ }
 {
     if w == 0 {
         return;
@@ -363,7 +353,7 @@ fn pick(b: bool, c: u16) -> u16
 
 // The record's cell c gets the number x; the cell that waited is linked to it; c waits if its own LINK is blank.
 pub fn fill(cells: &mut [u64], notes: Notes, c: u16, x: u64, waits: bool) -> Notes
-    ensures { λ r. ⌜ ((a : Judged) (y : Cell) → Packs x y → OnNotes (fill c y waits) notes (now (cells .entry)) a r (now (cells .exit)) a tt) ⌝ }
+    ensures { λ r. ⌜ ((go : ℕ) (y : Cell) → Packs x y → OnNotes (fill c y waits) notes cells go r go tt) ⌝ }
 {
     link_up(cells, notes.waiting, c);
     put(cells, c, x);

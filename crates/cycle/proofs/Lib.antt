@@ -1,5 +1,9 @@
--- Laws of J1 after J1, of step 3 in two parts, and of the end of a cycle.
+-- Laws of the parts of a cycle.
+pub mod OperateLaws
 pub mod ReachLaws
-pub mod StageLaws
+pub mod PartLaws
+pub mod ExecuteLaws
 pub mod OrderLaws
+pub mod InterpretLaws
 pub mod TurnLaws
+pub mod CycleLaws

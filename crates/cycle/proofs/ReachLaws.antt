@@ -1,109 +1,105 @@
 -- The laws of `Reaches`: a turn of J1, the last turn, and what follows.
-use Prim.Native.Nat.{ℕ, zero, suc, _+_, _-_, _*_, _<_, _≤_}
-use mathlib.Core.Path.{_≡_, refl, ap, _∙_, sym}
-use mathlib.Core.Bool.{Bool, true, false, _&&_}
-use mathlib.Core.List.{List}
+use Prim.Native.Nat.{ℕ, zero, suc, _+_, _-_, _<_, _≤_}
+use mathlib.Core.Path.{_≡_, refl, ap, _∙_, sym, subst}
+use mathlib.Core.Bool.{Bool, true, false, _&&_, and-false}
+use mathlib.Core.Option.{Option, none, some}
+use mathlib.Core.List.{List, []}
 use native.Mathlib.Omega.{arith}
 use native.Mathlib.Numerals.{add-one}
-use borrow.Author.Tests.{eqb-true, eqb-false, ne-eqb}
+use borrow.Author.Tests.{eqb-true, eqb-false, ne-eqb, eq-eqb, lt-ltb}
 use lib.Dec.{eqb, ltb}
-use lib.ListN.{length, take}
+use lib.ListN.{length}
+use Rattle.paper.specs.declared.Refusal.{Refusal}
 use Rattle.paper.specs.declared.Refusal.the-variants.{CellZero, FreeCell, WrongKind}
 use Rattle.paper.specs.declared.Symbol.{Symbol}
-use Rattle.paper.specs.Cell.{Cell, free, word, term, process, Word, Region, State, H, J, cellAt, isFree, isProcess, symbolOf}
-use Rattle.paper.specs.declared.Refusal.{Refusal}
+use Rattle.paper.specs.Cell.{Cell, free, word, term, process, Word, State, H, J, cellAt, wordIn, isFree, isProcess, symbolOf}
 use Rattle.paper.specs.Act.{Act, Res, done, refused, _>>=_, _>>_, ret, refuse, refuseIf, ifThen, sized, peek, own, touch, notOwn, pop}
-use Rattle.paper.specs.Cycle.{Control, after, descend, performs, execute, executes}
-use Rattle.ranges.specs.Effect.{effect}
-use Rattle.ranges.proofs.NextLaws.{performs-others, performs-j1}
+use Rattle.paper.specs.Process.{Next, executing, J1, listed, performIn, perform}
+use Rattle.paper.specs.Cycle.{Control, finish, performs, execute, executes}
 use Rattle.paper.proofs.SoundStore.{and-true}
-use Rattle.paper.proofs.Handed.{when-done}
-use Rattle.paper.proofs.ReadLaws.{r-touch}
 use Rattle.cells.specs.Bridge.{Rest, stateOf, unpacked, cellIn}
 use Rattle.cells.proofs.Store.{unpacked-length}
-use Rattle.undo.specs.declared.Acted.{Acted}
-use Rattle.undo.specs.declared.Acted.the-variants.{Done, Refused}
-use Rattle.undo.specs.Did.{left, To, Judged, Always, Top, Sees, Did}
-use Rattle.undo.proofs.Steps.{bind-ok, then-ok, bind-no, fails, passes}
-use Rattle.undo.proofs.Join.{to-sees}
-use Rattle.undo.proofs.Lines.{if-no}
-use Rattle.lines.specs.Ran.{Known}
-use Rattle.perform.specs.Steps.{Steps}
-use Rattle.perform.proofs.StepLaws.{tops}
-use Rattle.cycle.specs.Reaches.{accepted, isJ1, atOnce, Reaches}
+use Rattle.steps.specs.Follows.{World, Follows, To, left}
+use Rattle.steps.specs.Follows as steps
+use Rattle.steps.proofs.Steps.{bind-ok, then-ok, bind-no, then-no, fails, passes}
+use Rattle.steps.proofs.Join.{to-sees}
+use Rattle.steps.proofs.Sequence.{Judged}
+use Rattle.undo.specs.Verdict.{told, refusalOf}
+use Rattle.undo.specs.Did.{Top, Always, lent, reading}
+use Rattle.undo.proofs.Verdict.{told-done, told-refused}
+use Rattle.cycle.specs.Reaches.{Reaches, isJ1, Past}
 
-pub and-right : (a b : Bool) → a ≡ true → (a && b) ≡ false → b ≡ false
-and-right a b p q = rw p at q
+module _ {A : Type 0} {W : World State Refusal} {K : W .Rest → Type 0} where
+  pub reach-none : {M : Act A} {x : W .Held} {a : Option Refusal} → Reaches W K 0 M M x a x a
+  reach-none {x = x} = record { is = λ e h. refl; kept = W .same x }
 
-module _ {A : Type 0} where
-  -- where nothing was refused, M and N do the same
-  same : (a : Acted) (M N : Act A) (t : State) → (accepted a ≡ true → M t ≡ N t) → (left a >> M) t ≡ (left a >> N) t
-  unfolding left _>>_ ret refuse
-  same Done M N t p = p refl
-  same (Refused z) M N t p = refl
+  pub reach-then : {M N O : Act A} {i j : ℕ} {x y z : W .Held} {a b r : Option Refusal} → Reaches W K i M N x a y b → Reaches W K j N O y b z r
+      → Reaches W K (i + j) M O x a z r
+  reach-then {i = i} {j} {x} {y} {z} d f = record { is = λ e h. d .is e h ∙ f .is e h; kept = W .joined i j x y z (d .kept) (f .kept) }
 
-  module _ {K : Rest → Type 0} {s l : List ℕ} {a : Acted} where
-    pub reach-alike : {M N : Act A} → ((e : Rest) → K e → accepted a ≡ true → M (stateOf e s) ≡ N (stateOf e s)) → Reaches K 0 M N s l a s l a
-    reach-alike {M} {N} p = record { is = λ e h. same a M N (stateOf e s) (p e h); back = refl; count = omega arith; formed = λ h. h }
+  pub reach-most : (k : ℕ) {M N : Act A} {i : ℕ} {x y : W .Held} {a b : Option Refusal} → i ≤ k → Reaches W K i M N x a y b → Reaches W K k M N x a y b
+  reach-most k {i = i} {x} {y} h d = record { is = d .is; kept = W .more i k x y h (d .kept) }
 
-    pub reach-then : {M N O : Act A} {i j : ℕ} {s₁ l₁ s₂ l₂ : List ℕ} {b r : Acted} → Reaches K i M N s l a s₁ l₁ b → Reaches K j N O s₁ l₁ b s₂ l₂ r
-        → Reaches K (i + j) M O s l a s₂ l₂ r
-    reach-then d f = record {
-      is = λ e h. d .is e h ∙ f .is e h;
-      back = f .back ∙ d .back;
-      count = omega (arith, d .count, f .count);
-      formed = λ h. f .formed (d .formed h);
-    }
-
-    pub reach-most : (k : ℕ) {M N : Act A} {i : ℕ} {s₁ l₁ : List ℕ} {b : Acted} → i ≤ k → Reaches K i M N s l a s₁ l₁ b → Reaches K k M N s l a s₁ l₁ b
-    reach-most k h d = record { is = d .is; back = d .back; count = omega (arith, d .count); formed = d .formed }
-
--- two blocks that go on alike after m
-pub bind-alike : {A B : Type 0} (m : Act A) (f g : A → Act B) (s : State) → ((a : A) (t : State) → m s ≡ done a t → f a t ≡ g a t) → (m >>= f) s ≡ (m >>= g) s
-bind-alike {A} {B} m f g s h = go (m s) refl
-  where
-    go : (x : Res State Refusal A) → m s ≡ x → (m >>= f) s ≡ (m >>= g) s
-    go (done a t) e = bind-ok m f s t a e (h a t e) ∙ sym (bind-ok m g s t a e refl)
-    go (refused z) e = bind-no m f s z e ∙ sym (bind-no m g s z e)
-
-touches : (c : ℕ) (t : State) → eqb c 0 ≡ false → isFree (cellAt (t .cells) c) ≡ false → touch c t ≡ done (cellAt (t .cells) c) t
-unfolding touch peek ret
-touches c t p q = then-ok (refuseIf (eqb c 0) CellZero) _ t t tt (passes _ _ t p) (bind-ok (peek c) _ t t _ refl (then-ok (refuseIf _ (FreeCell c)) _ t t tt (passes _ _ t q) refl))
+  -- what is left is done
+  pub reach-follows : {M N : Act A} {i j : ℕ} {x y z : W .Held} {a b r : Option Refusal} {v : A} → Reaches W K i M N x a y b → Follows W K j N y b z r v
+      → Follows W K (i + j) M x a z r v
+  reach-follows {i = i} {j} {x} {y} {z} d f =
+      record { is = λ e h. record { is = d .is e h ∙ f .is e h .is }; kept = W .joined i j x y z (d .kept) (f .kept) }
 
 -- what follows a line of a block that has been done
 module _ {A B : Type 0} (g : A → Act B) where
   on : Res State Refusal A → Res State Refusal B
   on x = elim x [ done v t ↦ g v t | refused z ↦ refused z ]
 
-  rest : (a b : Acted) (M : Act A) (v : A) (t t₁ : State) → (left a >> M) t ≡ (left b >> ret v) t₁ → (left a >> (M >>= g)) t ≡ (left b >> g v) t₁
+  rest : (a b : Option Refusal) (M : Act A) (v : A) (t t₁ : State) → (left a >> M) t ≡ (left b >> ret v) t₁ → (left a >> (M >>= g)) t ≡ (left b >> g v) t₁
   unfolding left _>>=_ _>>_ ret refuse on
-  rest Done Done M v t t₁ h = ap on h
-  rest Done (Refused y) M v t t₁ h = ap on h
-  rest (Refused z) Done M v t t₁ h = ap on h
-  rest (Refused z) (Refused y) M v t t₁ h = ap on h
+  rest none none M v t t₁ h = ap on h
+  rest none (some y) M v t t₁ h = ap on h
+  rest (some z) none M v t t₁ h = ap on h
+  rest (some z) (some y) M v t t₁ h = ap on h
 
-pub yes-at : {A : Type 0} (m n : Act A) (t : State) {b : Bool} → b ≡ true → ifThen b m n t ≡ m t
+-- where nothing was refused, M and N do the same
+same : {A : Type 0} (a : Option Refusal) (M N : Act A) (t : State) → (a ≡ none → M t ≡ N t) → (left a >> M) t ≡ (left a >> N) t
+unfolding left _>>_ ret refuse
+same none M N t p = p refl
+same (some z) M N t p = refl
+
+touches : (c : ℕ) (t : State) → eqb c 0 ≡ false → isFree (cellAt (t .cells) c) ≡ false → touch c t ≡ done (cellAt (t .cells) c) t
+unfolding touch peek ret
+touches c t p q =
+    then-ok (refuseIf (eqb c 0) CellZero) _ t t tt (passes _ _ t p)
+    (bind-ok (peek c) _ t t _ refl (then-ok (refuseIf _ (FreeCell c)) _ t t tt (passes _ _ t q) refl))
+
+yes-at : {A : Type 0} (m n : Act A) (t : State) {b : Bool} → b ≡ true → ifThen b m n t ≡ m t
 unfolding ifThen
 yes-at m n t p = rw p
 
-pub no-at : {A : Type 0} (m n : Act A) (t : State) {b : Bool} → b ≡ false → ifThen b m n t ≡ n t
-unfolding ifThen
-no-at m n t p = rw p
-
--- "J1 pop (0), execute it"
-popThen : (Symbol → Act Control) → Act Control
+-- "J1 pop (0), execute it": J1 leaves the symbol to be executed
+unfoldable popThen : (Symbol → Act Control) → Act Control
 popThen again = do
   w ← own (H 0)
   pop
   again (symbolOf w)
 
+handed : (m : Act (Unit {0})) (v : Next) (g : Next → Act Control) (t : State) → ((m >> ret v) >>= g) t ≡ (m >> g v) t
+unfolding _>>=_ _>>_ ret
+handed m v g t = go (m t) t
+  where
+    go : (q : Res State Refusal (Unit {0})) (t : State) → (((λ _. q) >> ret v) >>= g) t ≡ ((λ _. q) >> g v) t
+    go (done u s) t = refl
+    go (refused e) t = refl
+
+j1-performs : (again : Symbol → Act Control) (t : State) → performs again 1 t ≡ popThen again t
+unfolding performs perform performIn listed ifThen J1 finish popThen own _>>=_
+j1-performs again t = handed pop (executing (symbolOf (wordIn (cellAt (t .cells) (H 0))))) (finish again) t
+
 j1-pops : (f : ℕ) (y : Symbol) (t : State) → y .num ≡ J 1 → isProcess (cellAt (t .cells) (J 1)) ≡ true
     → execute (suc f) y t ≡ popThen (λ z. execute f z) t
-unfolding execute notOwn popThen
+unfolding execute notOwn
 j1-pops f y t n p =
     rw n
     (bind-ok (touch (J 1)) _ t t _ (touches (J 1) t refl (not-free (cellAt (t .cells) (J 1)) p))
-    (then-ok (notOwn (J 1)) _ t t tt (passes _ _ t refl) (yes-at _ _ t p ∙ ap (λ (m : Act Control). m t) (performs-j1 (λ z. execute f z)))))
+    (then-ok (notOwn (J 1)) _ t t tt (passes _ _ t refl) (yes-at _ _ t p ∙ j1-performs (λ z. execute f z) t)))
   where
     not-free : (x : Cell) → isProcess x ≡ true → isFree x ≡ false
     not-free (free l) h = sym h
@@ -111,107 +107,98 @@ j1-pops f y t n p =
     not-free (term t) h = refl
     not-free process h = refl
 
--- anything but J1 is executed at once
-module _ (f : ℕ) (y : Symbol) where
-  fork : (x : Cell) (t : State) (b : Bool) → isProcess x ≡ b → (eqb (y .num) (J 1) && b) ≡ false
-      → (notOwn (y .num) >> ifThen (isProcess x) (performs (λ z. execute f z) (y .num - J 0)) (descend y)) t
-      ≡ (notOwn (y .num) >> ifThen (isProcess x) (after (effect (y .num - J 0))) (descend y)) t
-  fork x t false h p = ap (λ M. (notOwn (y .num) >> M) t) (sym (if-no _ h) ∙ if-no _ h)
-  fork x t true h p =
-      ap (λ M. (notOwn (y .num) >> ifThen (isProcess x) M (descend y)) t) (performs-others (λ z. execute f z) (y .num - J 0) (not-j1 (and-yes _ p)))
-    where
-      and-yes : (b : Bool) → (b && true) ≡ false → b ≡ false
-      and-yes true h = h
-      and-yes false h = refl
-
-      not-j1 : eqb (y .num) (J 1) ≡ false → y .num - J 0 ≡ 1 → ⊥
-      not-j1 e q = eqb-false (y .num) (J 1) e (omega arith)
-
-  at-once : (t : State) → (eqb (y .num) (J 1) && isProcess (cellAt (t .cells) (y .num))) ≡ false → execute (suc f) y t ≡ atOnce y t
-  unfolding execute atOnce
-  at-once t p = bind-alike (touch (y .num)) _ _ t
-      λ x u e. fork x u (isProcess x) refl (ap (λ z. eqb (y .num) (J 1) && isProcess z) (when-done (r-touch (y .num)) t u x refl e .1 .0) ∙ p)
-
 -- the turns of the definition
 turns : (x : Symbol) (e : Rest) (s : List ℕ) → executes x (stateOf e s) ≡ execute (length s + 1) x (stateOf e s)
 unfolding executes sized
 turns x e s = rw (unpacked-length s, add-one)
 
 module _ {top : ℕ} {s l : List ℕ} where
-  pub j1-begins : (x : Symbol) {a : Acted} → Reaches (Top top) 0 (executes x) (execute (length s + 1) x) s l a s l a
-  j1-begins x = reach-alike (λ e k h. turns x e s)
+  pub j1-begins : (x : Symbol) (go : ℕ) → Reaches lent (Top top) 0 (executes x) (execute (length s + 1) x) (s, l) (told go) (s, l) (told go)
+  j1-begins x go = record { is = λ e h. same (told go) _ _ (stateOf e s) (λ z. turns x e s); kept = lent .same (s, l) }
 
   -- one turn of J1
-  pub j1-turn : (n : ℕ) (y : Symbol) {z : Symbol} {w : Word} {a b : Acted} {s₁ l₁ : List ℕ} → 0 < n → isJ1 s a (y .num) ≡ true
-      → Sees Always (own 1) s w → z ≡ symbolOf w → Did (Top top) 3 pop s l a s₁ l₁ b tt → Reaches (Top top) 3 (execute n y) (execute (n - 1) z) s l a s₁ l₁ b
+  pub j1-turn : (n : ℕ) (y : Symbol) (go : ℕ) {z : Symbol} {w : Word} {b : Option Refusal} {x : List ℕ × List ℕ} → 0 < n → isJ1 s go (y .num) ≡ true
+      → steps.Sees reading Always (own (H 0)) s w → z ≡ symbolOf w → Follows lent (Top top) 1 pop (s, l) (told go) x b tt
+      → Reaches lent (Top top) 1 (execute n y) (execute (n - 1) z) (s, l) (told go) x b
   unfolding popThen cellIn _>>=_ _>>_
-  j1-turn zero y p j o v d = absurd (omega (arith, p))
-  j1-turn (suc n) y {z} {w} {a} {b} {s₁} {l₁} p j o v d =
-      let (q, g) = and-true _ _ j in
-      let c = eqb-true (y .num) (J 1) (and-true _ _ q .0) in
+  j1-turn zero y go p j o v d = absurd (omega (arith, p))
+  j1-turn (suc n) y go {z} {w} {b} {x} p j o v d =
+      let (q, g) = and-true (eqb (y .num) (J 1)) _ j in
+      let c = eqb-true (y .num) (J 1) q in
+      let k = and-true (eqb go 0) _ g .1 in
       let less : n ≡ suc n - 1 = omega arith in
       record {
-        is = λ e k. same a _ (popThen (λ z. execute n z)) (stateOf e s) (λ h. j1-pops n y (stateOf e s) c (ap (λ (i : ℕ). isProcess (cellIn s i)) (sym c) ∙ g))
-            ∙ goes e k ∙ ap (λ i. (left b >> execute i (symbolOf w)) (stateOf e s₁)) less
-            ∙ ap (λ x. (left b >> execute (suc n - 1) x) (stateOf e s₁)) (sym v);
-        back = d .back;
-        count = d .count;
-        formed = d .formed;
+        is = λ e h. same (told go) _ (popThen (λ z. execute n z)) (stateOf e s)
+            (λ _. j1-pops n y (stateOf e s) c (ap (λ (i : ℕ). isProcess (cellIn s i)) (sym c) ∙ k))
+            ∙ goes e h ∙ ap (λ i. (left b >> execute i (symbolOf w)) (lent .state e x)) less
+            ∙ ap (λ x′. (left b >> execute (suc n - 1) x′) (lent .state e x)) (sym v);
+        kept = d .kept;
       }
     where
-      goes : (e : Rest) → Top top e → (left a >> popThen (λ z. execute n z)) (stateOf e s) ≡ (left b >> execute n (symbolOf w)) (stateOf e s₁)
-      goes e k = rest _ a a (own 1) w (stateOf e s) (stateOf e s) (to-sees a o e tt .is) ∙ rest (λ u. execute n (symbolOf w)) a b pop tt (stateOf e s) (stateOf e s₁) (d .is e k .is)
+      goes : (e : Rest) → Top top e → (left (told go) >> popThen (λ z. execute n z)) (stateOf e s) ≡ (left b >> execute n (symbolOf w)) (lent .state e x)
+      goes e h =
+          let t = stateOf e s in
+          rest (λ u. pop >> execute n (symbolOf u)) (told go) (told go) (own (H 0)) w t t (to-sees (o .is e tt) .is)
+          ∙ rest (λ u. execute n (symbolOf w)) (told go) b pop tt t (lent .state e x) (d .is e h .is)
 
   -- no turn is left, or no J1 comes
-  pub j1-ends : (n : ℕ) (y : Symbol) {a r : Acted} → (0 < n → isJ1 s a (y .num) ≡ false) → Judged (refuseIf (eqb n 0) (WrongKind (y .num))) a r
-      → Reaches (Top top) 0 (execute n y) (atOnce y) s l a s l r
-  unfolding execute refuse cellIn
-  j1-ends n y {a} {r} p d = record { is = λ e k. go n p d e; back = refl; count = omega arith; formed = λ h. h }
+  pub j1-ends : (n : ℕ) (y : Symbol) (go r : ℕ) → Judged {S = State} steps.Always (refuseIf (eqb n 0) (WrongKind (y .num))) (told go) (told r)
+      → (k : ℕ) × Reaches lent (Top top) 0 (execute n y) (execute (suc k) y) (s, l) (told go) (s, l) (told r)
+  unfolding execute refuse
+  j1-ends zero y go r d = (0, record { is = λ e h. goes (stateOf e s); kept = lent .same (s, l) })
     where
-      dropped : (b x : Bool) → (b && true && x) ≡ (b && x)
-      dropped true x = refl
-      dropped false x = refl
+      goes : (t : State) → (left (told go) >> execute zero y) t ≡ (left (told r) >> execute 1 y) t
+      goes t =
+          same (told go) _ _ t (λ _. sym (bind-no (refuseIf true (WrongKind (y .num))) (λ u. execute 1 y) t _ (fails _ _ t refl)))
+          ∙ rest (λ u. execute 1 y) (told go) (told r) (refuseIf true (WrongKind (y .num))) tt t t (d .is t tt .is)
+  j1-ends (suc m) y go r d = (m, record { is = λ e h. goes (stateOf e s); kept = lent .same (s, l) })
+    where
+      goes : (t : State) → (left (told go) >> execute (suc m) y) t ≡ (left (told r) >> execute (suc m) y) t
+      goes t =
+          same (told go) _ _ t
+          (λ _. sym (bind-ok (refuseIf (eqb (suc m) 0) (WrongKind (y .num))) (λ u. execute (suc m) y) t t tt (passes _ _ t (ne-eqb (suc m) 0 (omega arith))) refl))
+          ∙ rest (λ u. execute (suc m) y) (told go) (told r) (refuseIf (eqb (suc m) 0) (WrongKind (y .num))) tt t t (d .is t tt .is)
 
-      wrong : ℕ → Act (Unit {0})
-      wrong n = refuseIf (eqb n 0) (WrongKind (y .num))
+-- a test that nothing refused does not hold, and nothing was refused before it
+module _ (z : Refusal) (go r : ℕ) (p : r ≡ 0) where
+  nowhere : State
+  nowhere = record { cells = []; regions = []; lines = []; room = 0 }
 
-      tested : (n : ℕ) → (0 < n → isJ1 s a (y .num) ≡ false) → (e : Rest) → accepted a ≡ true
-          → execute n y (stateOf e s) ≡ (wrong n >>= (λ u. atOnce y)) (stateOf e s)
-      tested zero p e h = sym (bind-no (wrong 0) _ (stateOf e s) _ (fails _ _ (stateOf e s) refl))
-      tested (suc n) p e h =
-          let q = ap (λ b. eqb (y .num) (J 1) && b && isProcess (cellIn s (y .num))) (sym h) ∙ p (omega arith) in
-          at-once n y (stateOf e s) (sym (dropped (eqb (y .num) (J 1)) _) ∙ q)
-          ∙ sym (bind-ok (wrong (suc n)) _ (stateOf e s) (stateOf e s) tt (passes _ _ (stateOf e s) (ne-eqb (suc n) 0 (omega arith))) refl)
+  went : (b : Bool) (a : Option Refusal) → (left a >> refuseIf b z) nowhere ≡ (left none >> ret (tt {0})) nowhere → (b ≡ false) × (a ≡ none)
+  unfolding left _>>_ ret refuse refuseIf
+  went false none h = (refl, refl)
+  went true none h = absurd (let q : _≡_ {A = ℕ} 0 1 = cc in omega arith)
+  went b (some e) h = absurd (let q : _≡_ {A = ℕ} 0 1 = cc in omega arith)
 
-      go : (n : ℕ) → (0 < n → isJ1 s a (y .num) ≡ false) → Judged (wrong n) a r → (e : Rest)
-          → (left a >> execute n y) (stateOf e s) ≡ (left r >> atOnce y) (stateOf e s)
-      go n p d e = same a _ _ (stateOf e s) (tested n p e) ∙ rest (λ u. atOnce y) a r (wrong n) tt (stateOf e s) (stateOf e s) (d .is (stateOf e s) .is)
+  judged-went : (b : Bool) → Judged {S = State} steps.Always (refuseIf b z) (told go) (told r) → (b ≡ false) × (told go ≡ none)
+  judged-went b d = went b (told go) (d .is nowhere tt .is ∙ ap (λ a. (left a >> ret (tt {0})) nowhere) (told-done r p))
 
--- what is executed in the end, and then the rest
-pub reach-steps : {A : Type 0} {rs : List Region} {room top k j : ℕ} {M N : Act A} {s l s₁ l₁ s₂ l₂ order marks line : List ℕ} {a b r : Acted} {n : ℕ} {v : A}
-    → Reaches (Top top) k M N s l a s₁ l₁ b → Steps (Known rs room top) j N s₁ l₁ b s₂ l₂ order marks line r n v
-    → Steps (Known rs room top) (k + j) M s l a s₂ l₂ order marks line r n v
-reach-steps d f = record {
-  ran = record {
-    is = λ e h. record { is = d .is e (tops e h) ∙ f .ran .is e h .is };
-    back = f .ran .back ∙ d .back;
-    count = omega (arith, d .count, f .ran .count);
-    formed = λ h. f .ran .formed (d .formed h);
-  };
-  kept = f .kept;
-  clean = f .clean;
-}
+pub told-none : (go : ℕ) → told go ≡ none → go ≡ 0
+unfolding told
+told-none zero p = refl
+told-none (suc n) p = absurd (let q : _≡_ {A = ℕ} 0 1 = cc in omega arith)
 
--- the test for J1
-pub j1-other : (s : List ℕ) (a : Acted) (c : ℕ) → eqb c (J 1) ≡ false → false ≡ isJ1 s a c
-j1-other s a c p = rw p
+-- the end of the loop: n turns are left of those that s₀ has, and J1 does not come, as the test t says
+not-j1 : (s : List ℕ) (n : ℕ) (y : Symbol) (go r : ℕ) (t : Bool) → t ≡ isJ1 s go (y .num) → (ltb 0 n && t) ≡ false
+    → Judged {S = State} steps.Always (refuseIf (eqb n 0) (WrongKind (y .num))) (told go) (told r) → r ≡ 0
+    → (eqb (y .num) (J 1) && isProcess (cellIn s (y .num))) ≡ false
+not-j1 s n y go r t e f j p =
+    let w = judged-went (WrongKind (y .num)) go r p (eqb n 0) j in
+    let more : 0 < n = omega (arith, eqb-false n 0 (w .0)) in
+    let no : t ≡ false = rw (lt-ltb 0 n more) at f in
+    let g : (eqb (y .num) (J 1) && (eqb go 0 && isProcess (cellIn s (y .num)))) ≡ false = sym e ∙ no in
+    rw (eq-eqb go 0 (told-none go (w .1))) at g
 
-pub j1-refused : (s : List ℕ) (c : ℕ) {a : Acted} {z : Refusal} → a ≡ Refused z → false ≡ isJ1 s a c
-j1-refused s c p = rw p (go (eqb c 22))
-  where
-    go : (b : Bool) → false ≡ (b && false && isProcess (cellIn s c))
-    go true = refl
-    go false = refl
-
-pub j1-done : (s : List ℕ) {a : Acted} (c : ℕ) → a ≡ Done → eqb c 22 ≡ true → isProcess (cellIn s c) ≡ isJ1 s a c
-j1-done s c p q = rw (p, q)
+pub past : {top : ℕ} {s₀ l₀ s l : List ℕ} (x : Symbol) (n : ℕ) (y : Symbol) (go r : ℕ) → n ≤ length s₀ + 1
+    → Reaches lent (Top top) (length s₀ + 1 - n) (execute (length s₀ + 1) x) (execute n y) (s₀, l₀) (told 0) (s, l) (told go) → {t : Bool}
+    → t ≡ isJ1 s go (y .num) → (ltb 0 n && t) ≡ false
+    → Judged {S = State} steps.Always (refuseIf (eqb n 0) (WrongKind (y .num))) (told go) (told r)
+    → Past top x s₀ l₀ s l (record { go = r; x = y })
+past {top} {s₀} {l₀} {s} {l} x n y go r few d {t} e f j =
+    let last = j1-ends {top = top} {s = s} {l = l} n y go r j in
+    record {
+      turns = last .0;
+      reaches = subst (λ a. Reaches lent (Top top) (length s₀ + 1) (executes x) (execute (suc (last .0)) y) (s₀, l₀) a (s, l) (told r)) (told-done 0 refl)
+          (reach-most _ (omega (arith, few)) (reach-then (j1-begins x 0) (reach-then d (last .1))));
+      other = not-j1 s n y go r t e f j;
+    }

@@ -1,79 +1,78 @@
 -- A cycle as a whole: what was accepted stands in cells and lines, what was refused in neither.
 use Prim.Native.Nat.{ℕ, _+_, _-_, _*_, _<_, _≤_}
 use mathlib.Core.Path.{_≡_, refl, sym, ap, subst, _∙_}
+use mathlib.Core.Option.{Option, none, some}
 use mathlib.Core.List.{List, [], _++_}
 use native.Mathlib.Omega.{arith}
 use lib.ListN.{length, take, drop}
-use lib.Seq.{length-take-le}
 use Rattle.paper.specs.declared.Refusal.{Refusal}
-use Rattle.paper.specs.Limits.{firstDeck}
-use Rattle.paper.specs.Cell.{Region, endOfRegions}
-use Rattle.paper.specs.Act.{_>>_, ret, refuse}
+use Rattle.paper.specs.Cell.{Region, State}
+use Rattle.paper.specs.Act.{Res, done, refused, _>>_, ret, refuse}
 use Rattle.paper.specs.Cycle.{cycle}
-use Rattle.paper.specs.Run.{continues, joined, afterCycle}
+use Rattle.paper.specs.Run.{continues, stops, alone, joined, afterCycle}
 use Rattle.cells.specs.Pack.{AllFormed}
-use Rattle.cells.specs.Bridge.{Rest, stateOf}
-use Rattle.undo.specs.declared.Acted.{Acted}
-use Rattle.undo.specs.declared.Acted.the-variants.{Done, Refused as Undone}
-use Rattle.undo.specs.Log.{used, rewindOf}
-use Rattle.undo.specs.Did.{left}
-use Rattle.undo.proofs.Log.{rewind-empty}
-use Rattle.lines.specs.Ran.{Known, Kept, Copies, lined}
-use Rattle.perform.specs.Steps.{Steps}
+use Rattle.cells.specs.Bridge.{stateOf}
+use Rattle.steps.specs.Follows.{left}
+use Rattle.regions.specs.Lent.{Tells}
+use Rattle.undo.specs.Verdict.{told}
+use Rattle.undo.specs.Log.{rewindOf, Begun}
+use Rattle.undo.proofs.Verdict.{told-done}
+use Rattle.printing.specs.declared.Printed.{Printed}
+use Rattle.printing.specs.Telling.{Heard, after, Hears, telling, lineIn, Stands}
+use Rattle.printing.proofs.PrintingLaws.{line-length, so-far, past-it}
 use Rattle.cycle.specs.declared.Cycled.{Cycled}
 use Rattle.cycle.specs.declared.Cycled.the-variants.{Progress, Refused}
-use Rattle.cycle.specs.Turns.{stateAt, Came, Fits, Settles}
+use Rattle.cycle.specs.Parts.{Part}
+use Rattle.cycle.specs.Turns.{stateAt, cycled, Came, Settles}
 
-module _ (rs : List Region) (top at : ℕ) (out : List ℕ) (ends : endOfRegions rs firstDeck ≡ top) (within : at ≤ length out) where
-  -- the rest of the state that a cycle sees: no line before its own
-  abbrev rest : Rest
-  rest = record { regions = rs; lines = []; room = length out - at }
+module _ (rs : List Region) {t : List ℕ} (tells : Tells t rs) {k : ℕ} {s l s₁ l₁ : List ℕ} (d : List ℕ) (at : ℕ) (d′ : List ℕ) (r : Printed)
+    (p : Part t k cycle (s, l) d at (s₁, l₁) d′ r (tt {0}))
+  where
+    heard : Heard
+    heard = record { regions = rs; room = length d - at }
 
-  known : Known rs (length out - at) top rest
-  known = record { regions = refl; room = refl; ends = ends }
+    -- the state that a run hands to the cycle, and what the cycle comes to
+    begins : alone (stateAt rs s d at) ≡ stateOf (after heard []) s
+    unfolding heard
+    begins =
+        let z : length d - at ≡ length d - at - length {A = ℕ} [] = omega arith in
+        λ i. record { cells = stateOf (after heard []) s .cells; regions = rs; lines = []; room = z i }
 
-  -- the line ends within the lent bytes
-  pub line-fits : {line : List ℕ} {len : ℕ} (go : Acted) → Kept (Known rs (length out - at) top) line len go → Fits go (at + len) out
-  line-fits Done k = omega (arith, k .fits rest known refl, within)
-  line-fits (Undone e) k = tt
+    comes : (left none >> cycle) (alone (stateAt rs s d at)) ≡ (left (told (r .go)) >> ret (tt {0})) (stateOf (after heard (lineIn d′ at (r .end))) s₁)
+    unfolding heard
+    comes = ap (left none >> cycle) begins ∙ p .follows rs tells .is heard (record { regions = refl; room = refl }) .is
 
-  -- the lines and the room afterwards
-  written : (s₀ s line out₂ : List ℕ) (len : ℕ) → Kept (Known rs (length out - at) top) line len Done → Copies out at (take len line) out₂ (at + len)
-      → joined (stateAt rs s₀ out at) (stateOf (lined (take len line) rest) s) ≡ stateAt rs s out₂ (at + len)
-  written s₀ s line out₂ len h w =
-      let p : (length out - at) - length (take len line) ≡ length out₂ - (at + len) =
-      omega (arith, length-take-le len line (omega (arith, h .sized, h .within)), w .writes .sized) in
-      λ i. stateOf (record { regions = rs; lines = sym (w .writes .text) i; room = p i }) s
+    accepted : r .go ≡ 0 → cycled (stateAt rs s d at) ≡ continues (stateAt rs s₁ d′ (r .end))
+    unfolding left _>>_ ret afterCycle heard
+    accepted e =
+        let u = stateOf (after heard (lineIn d′ at (r .end))) s₁ in
+        let c : cycle (alone (stateAt rs s d at)) ≡ done tt u = comes ∙ ap (λ a. (left a >> ret (tt {0})) u) (told-done (r .go) e) in
+        let m : length d - at - length (lineIn d′ at (r .end)) ≡ length d′ - r .end = omega (arith, line-length d at d′ r (p .stands), p .stands .sized, p .stands .starts) in
+        ap (afterCycle (stateAt rs s d at)) c
+        ∙ (λ i. continues (stateOf (record { regions = rs; lines = sym (so-far d at d′ r (p .stands)) i; room = m i }) s₁))
 
-  module _ {k : ℕ} {s l s₁ l₁ order marks line : List ℕ} {len : ℕ} (s₂ out₂ : List ℕ) (r : Cycled) (fresh : used l ≡ 0) where
-    pub came : (go : Acted) → Steps (Known rs (length out - at) top) k cycle s l Done s₁ l₁ order marks line go len tt
-        → Settles go (at + len) l₁ (take len line) at s₁ out s₂ out₂ r → Came rs s out at s₂ out₂ r
-    unfolding left _>>_ ret refuse afterCycle
-    came Done d (p, w, q) = subst (λ r. Came rs s out at s₂ out₂ r) (sym p) (
-      ap (afterCycle (stateAt rs s out at)) (d .ran .is rest known .is)
-          ∙ ap continues (written s s₁ line out₂ len (d .kept) w ∙ ap (λ x. stateAt rs x out₂ (at + len)) (sym q)),
-      omega arith,
-      line-fits Done (d .kept),
-      w .past,
-    )
-    came (Undone e) d (p, q, o) = subst (λ r. Came rs s out at s₂ out₂ r) (sym p) (
-      ap (afterCycle (stateAt rs s out at)) (d .ran .is rest known .is),
-      q ∙ d .ran .back ∙ rewind-empty l s fresh,
-      o,
-    )
+    stopped : (e : Refusal) → told (r .go) ≡ some e → cycled (stateAt rs s d at) ≡ stops e
+    unfolding left _>>_ ret refuse afterCycle heard
+    stopped e q =
+        let u = stateOf (after heard (lineIn d′ at (r .end))) s₁ in
+        let c : cycle (alone (stateAt rs s d at)) ≡ refused e = comes ∙ ap (λ a. (left a >> ret (tt {0})) u) q in
+        ap (afterCycle (stateAt rs s d at)) c
 
-    pub stays-formed : (go : Acted) → Steps (Known rs (length out - at) top) k cycle s l Done s₁ l₁ order marks line go len tt
-        → Settles go (at + len) l₁ (take len line) at s₁ out s₂ out₂ r → AllFormed s → AllFormed s₂
-    stays-formed Done d (p, w, q) f = subst AllFormed (sym q) (d .ran .formed f)
-    stays-formed (Undone e) d (p, q, o) f = subst AllFormed (sym (q ∙ d .ran .back ∙ rewind-empty l s fresh)) f
+    module _ (begun : Begun s l) (s₂ : List ℕ) where
+      back : s₂ ≡ rewindOf l₁ s₁ → s₂ ≡ s
+      back q = q ∙ p .follows rs tells .kept .back ∙ begun .back
 
--- the end of a cycle
-pub settled-done : {go : Acted} {end n at : ℕ} (l s : List ℕ) {t out out₂ : List ℕ} → go ≡ Done → n ≡ end → Copies out at t out₂ n
-    → Settles go end l t at s out s out₂ (Progress n)
-settled-done {end = end} {n} {at} l s {t} {out} {out₂} p e w =
-    subst (λ g. Settles g end l t at s out s out₂ (Progress n)) (sym p) (ap Progress e, subst (λ k. Copies out at t out₂ k) e w, refl)
+      pub came : (c : Cycled) → Settles (r .go) (r .end) l₁ s₁ s₂ c → Came rs s d at s₂ d′ c
+      unfolding Settles Came
+      came (Progress n) (z, e, q) = (
+        accepted z ∙ (λ i. continues (stateAt rs (sym q i) d′ (sym e i))),
+        omega (arith, p .stands .starts),
+        omega (arith, p .stands .ends),
+        ap (λ i. drop i d′) e ∙ past-it d at d′ r (p .stands) ∙ ap (λ i. drop i d) (sym e),
+      )
+      came (Refused e) (q, h, b) = (stopped e q, back b, p .stands .unchanged h)
 
-pub settled-undone : {go : Acted} {e : Refusal} (end at : ℕ) (l t s : List ℕ) {s₂ : List ℕ} (out : List ℕ) → go ≡ Undone e → s₂ ≡ rewindOf l s
-    → Settles go end l t at s out s₂ out (Refused e)
-settled-undone {e = e} end at l t s {s₂} out p q =
-    subst (λ g. Settles g end l t at s out s₂ out (Refused e)) (sym p) (refl, q, refl)
+      pub stays-formed : (c : Cycled) → Settles (r .go) (r .end) l₁ s₁ s₂ c → AllFormed s → AllFormed s₂
+      unfolding Settles
+      stays-formed (Progress n) (z, e, q) f = subst AllFormed (sym q) (p .follows rs tells .kept .formed f)
+      stays-formed (Refused e) (q, h, b) f = subst AllFormed (sym (back b)) f

@@ -1,4 +1,6 @@
 -- What the parts of a cycle have done, and a cycle as a whole.
-pub mod Reaches
+pub mod Moves
 pub mod Order
+pub mod Reaches
+pub mod Parts
 pub mod Turns

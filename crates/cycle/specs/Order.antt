@@ -5,7 +5,7 @@ use Rattle.paper.specs.declared.Refusal.the-variants.{WrongKind}
 use Rattle.paper.specs.declared.Symbol.{Symbol}
 use Rattle.paper.specs.Cell.{Word, regional, wordIn, isTerm, isProcess}
 use Rattle.paper.specs.Act.{Act, _>>=_, _>>_, ret, refuseIf, ifThen, touch, notOwn, designate}
-use Rattle.cycle.specs.declared.Fetched.{Fetched}
+use Rattle.cycle.specs.declared.fetched.Fetched.{Fetched}
 
 -- P, S and the LINK
 pub record Order : Type 0 where

@@ -1,41 +1,32 @@
-// One cycle: execute, operate, steps 2 and 3, and the refusal that undoes it. Line by line the blocks of paper/specs/Cycle.
+// One cycle of document 01: step 2; step 3 with its fetch, the decision over P, J1 and the family of a process; then the LINK; and the
+// end of a cycle, which undoes a refused one. Line by line the blocks of paper/specs/Cycle.
 ghost use mathlib.Core.Path.{_≡_};
+ghost use mathlib.Core.List.{List};
+ghost use mathlib.Core.Logic.{_≢_};
 ghost use Prim.Native.Nat.{_+_, _-_, _*_, _^_, _<_, _≤_};
-ghost use lib.ListN.{length, take};
-ghost use Rattle.paper.specs.Limits.{largestN, firstDeck, longestLine};
-ghost use Rattle.paper.specs.Cell.{J, endOfRegions};
-ghost use Rattle.paper.specs.Cycle.{goesOn, executes, operate, interpret, cycle};
-ghost use Rattle.cells.specs.Layout.{wordOf};
+ghost use lib.ListN.{length, getD};
+ghost use Rattle.paper.specs.Cell.{J, Region};
+ghost use Rattle.paper.specs.Process.{then as andThen, goesOn, perform};
+ghost use Rattle.paper.specs.Cycle.{executes, operate, interpret};
 ghost use Rattle.undo.specs.Log.{Room};
-ghost use Rattle.undo.specs.declared.Acted.the-variants.{Done};
-ghost use Rattle.undo.specs.Did.{Top, Reads, Did};
-ghost use Rattle.walk.specs.Walks.{Clean};
-ghost use Rattle.lines.specs.Ran.{Known, tableOf};
-ghost use Rattle.control.specs.Moves.{controlOf};
-ghost use Rattle.perform.specs.Steps.{Steps};
-ghost use Rattle.cycle.specs.Reaches.{isJ1, atOnce, Reaches};
-ghost use Rattle.cycle.specs.Order.{orderOf, orderIn, fetch};
-ghost use Rattle.cycle.specs.Turns.{Ready, Turns, Fits, Settles};
-use acts::GotSymbol;
-use lines::Counts;
-use lines::Letters;
-use lines::Line;
-use lines::Printed;
+ghost use Rattle.undo.specs.Did.{Top, Did};
+ghost use Rattle.regions.specs.Lent.{Tells};
+ghost use Rattle.structures.specs.Walks.{Clean};
+ghost use Rattle.cycle.specs.Moves.{controlOf};
+ghost use Rattle.cycle.specs.Parts.{Told, Lends, Steps};
+ghost use Rattle.cycle.specs.Turns.{Ready, Turns, Settles};
+use fetched::Fetched;
 use paper::Refusal;
 use paper::Symbol;
 use paper::limits;
-use undo::Acted;
-use walk::Marks;
-use walk::Order;
+use printing::Printed;
+use regions::Table;
+use structures::Marks;
+use structures::Order;
 
-const J1: u16 = limits::J0 + 1;
-
-// What an operation came to, whether control has moved, and the length of the line that it prints.
-pub struct Operated {
-    pub go: Acted,
-    pub moved: bool,
-    pub len: usize,
-}
+mod control;
+mod fetched;
+mod past;
 
 // What a cycle came to: where the lines end now, or why it was refused.
 pub enum Cycled {
@@ -43,36 +34,68 @@ pub enum Cycled {
     Refused(Refusal),
 }
 
-// J1 is to be done: c is its cell, a process, and nothing was refused.
-fn is_j1(cells: &[u64], a: Acted, c: u16) -> bool
-    ensures { λ r. ⌜ r ≡ isJ1 (now (cells .entry)) a c ⌝ }
+// What an operation came to: the verdict, whether control has moved, and where the lines end.
+struct Operated {
+    go: u32,
+    away: bool,
+    end: usize,
+}
+
+// A process that prints nothing, by its family. J1 is not among them: it is done before.
+fn by_family(
+    cells: &mut [u64],
+    log: &mut [u64],
+    order: &mut Order,
+    marks: &mut Marks,
+    top: u16,
+    j: u16,
+) -> u32
+    requires { ⌜ Clean (now cells) (now order) (now marks) × Room (now log) (2 * length (now cells) + 40)
+        × (j ≢ 1) × (j ≢ 152) × (j ≢ 153) × (J j < 2 ^ 16) ⌝ }
+    ensures { λ r. ⌜ Did (Top top) (2 * length (now (cells .entry)) + 40) (perform j) cells log 0 r (andThen goesOn) ⌝ }
+    ensures { λ _. ⌜ Clean (now (cells .exit)) (now (order .exit)) (now (marks .exit)) ⌝ }
 {
-    if c != J1 {
-        return false;
-    }
-    match a {
-        Acted::Done => cells::is_process(cells::peek(cells, c)),
-        Acted::Refused(_) => false,
+    match j {
+        0..=59 => stacks::on_stacks(cells, log, 0, top, j),
+        60..=70 => lists::on_lists(cells, log, 0, top, j),
+        71..=74 => structures::on_structures(cells, log, order, marks, 0, top, j),
+        75..=109 => lists::on_lists(cells, log, 0, top, j),
+        110..=129 => numbers::on_numbers(cells, log, 0, top, j),
+        130..=151 => stacks::on_tags(cells, log, 0, top, j),
+        152..=65535 => undo::refuse_if(0, true, 28, limits::J0 + j),
     }
 }
 
-// J1 after J1: the symbol that is executed in the end. Each J1 pops, so there are more turns than cells.
-fn past_j1(cells: &mut [u64], log: &mut [u64], a: Acted, top: u16, x: Symbol) -> GotSymbol
-    requires { ⌜ Room (now log) (3 * length (now cells) + 3) × (length (now cells) ≤ largestN) ⌝ }
-    ensures { λ r. ⌜ Reaches (Top top) (3 * length (now (cells .entry)) + 3) (executes x) (atOnce (r .x))
-        (now (cells .entry)) (now (log .entry)) a (now (cells .exit)) (now (log .exit)) (r .go) ⌝ }
+// The process j. Those that print are handed the table and the lent bytes, and nobody else is.
+fn perform(
+    cells: &mut [u64],
+    log: &mut [u64],
+    order: &mut Order,
+    marks: &mut Marks,
+    table: &Table,
+    out: &mut [u8],
+    at: usize,
+    j: u16,
+) -> Printed
+    requires { ⌜ Lends (2 * length (now cells) + 40) (now cells) (now log) (now order) (now marks) (now table) (now out) at × (j ≢ 1) × (J j < 2 ^ 16) ⌝ }
+    ensures { λ r. ⌜ Steps (2 * length (now (cells .entry)) + 40) (perform j) cells log table out at r (andThen goesOn) ⌝ }
+    ensures { λ _. ⌜ Clean (now (cells .exit)) (now (order .exit)) (now (marks .exit)) ⌝ }
 {
-    let mut turns = cells.len() + 1;
-    let mut go = a;
-    let mut y = x;
-    while (0 < turns) & is_j1(cells, go, y.num) {
-        let w0 = acts::own(cells, limits::H0);
-        go = acts::pop(cells, log, go, top);
-        y = cells::symbol(w0);
-        turns -= 1;
+    if 152 <= j {
+        if j <= 153 {
+            return printing::on_lines(cells, log, table, out, at, 0, j);
+        }
     }
-    let b = undo::refuse_if(go, turns == 0, Refusal::WrongKind(y.num));
-    GotSymbol { go: b, x: y }
+    let go = by_family(cells, log, order, marks, top_of(table), j);
+    Printed { go: go, end: at }
+}
+
+// Where the regions end.
+fn top_of(table: &Table) -> u16
+    requires { ⌜ getD (now table) 0 0 < 2 ^ 16 ⌝ }
+    ensures { λ r. ⌜ r ≡ getD (now (table .entry)) 0 0 ⌝ }
+{
+    table[0] as u16
 }
 
 // The number of the process in cell c; a cell before J0 has none.
@@ -88,71 +111,41 @@ fn execute(
     log: &mut [u64],
     order: &mut Order,
     marks: &mut Marks,
-    line: &mut Line,
-    letters: &Letters,
-    counts: &Counts,
-    n: usize,
-    top: u16,
-    room: usize,
+    table: &Table,
+    out: &mut [u8],
+    at: usize,
     x: Symbol,
 ) -> Operated
-    requires { ⌜ Clean (now cells) (now order) (now marks) × Room (now log) (6 * length (now cells) + 73) × (length (now line) ≡ longestLine) ⌝ }
-    ensures { λ r. ⌜ Steps (Known (tableOf (now (letters .entry)) (now (counts .entry)) n) room top) (6 * length (now (cells .entry)) + 73) (executes x)
-        (now (cells .entry)) (now (log .entry)) Done
-        (now (cells .exit)) (now (log .exit)) (now (order .exit)) (now (marks .exit)) (now (line .exit)) (r .go) (r .len) (controlOf (r .moved)) ⌝ }
+    requires { ⌜ Lends (3 * length (now cells) + 41) (now cells) (now log) (now order) (now marks) (now table) (now out) at ⌝ }
+    ensures { λ r. ⌜ Steps (3 * length (now (cells .entry)) + 41) (executes x) cells log table out at (record { go = r .go; end = r .end }) (controlOf (r .away)) ⌝ }
+    ensures { λ _. ⌜ Clean (now (cells .exit)) (now (order .exit)) (now (marks .exit)) ⌝ }
 {
-    let g = past_j1(cells, log, Acted::Done, top, x);
+    let top = top_of(table);
+    let g = past::past_j1(cells, log, top, x);
     let y = g.x;
-    let b = g.go;
-    let t = acts::touch(cells, b, y.num);
-    let d = t.go;
-    let go = acts::not_own(d, y.num);
-    if cells::is_process(t.x) {
-        let j = process_number(y.num);
-        let p = perform::perform(
-            cells,
-            log,
-            order,
-            marks,
-            line,
-            letters,
-            counts,
-            n,
-            go,
-            top,
-            room,
-            j,
-        );
-        let done = p.go;
+    let t = acts::touch(cells, g.go, y.num);
+    let go = acts::not_own(t.go, y.num);
+    if go != 0 {
         return Operated {
-            go: done,
-            moved: false,
-            len: p.len,
+            go: go,
+            away: false,
+            end: at,
         };
     }
-    let down = control::descend(cells, log, go, y);
+    if cells::is_process(t.x) {
+        let j = process_number(y.num);
+        let p = perform(cells, log, order, marks, table, out, at, j);
+        return Operated {
+            go: p.go,
+            away: false,
+            end: p.end,
+        };
+    }
+    let down = control::descend(cells, log, 0, y);
     Operated {
         go: down,
-        moved: true,
-        len: 0,
-    }
-}
-
-// P 1 to 6.
-fn on_symbol(cells: &mut [u64], log: &mut [u64], top: u16, p: u8, x: Symbol) -> Acted
-    requires { ⌜ Room (now log) 4 × (1 ≤ p) × (p ≤ 6) ⌝ }
-    ensures { λ r. ⌜ Did (Top top) 4 (operate p x) (now (cells .entry)) (now (log .entry)) Done (now (cells .exit)) (now (log .exit)) r goesOn ⌝ }
-{
-    match p {
-        1 => acts::push(cells, log, Acted::Done, x),
-        2 => control::put_in(cells, log, Acted::Done, top, x.num),
-        3 => acts::restore(cells, log, Acted::Done, top, x.num),
-        4 => acts::preserve(cells, log, Acted::Done, x.num),
-        5 => {
-            acts::own_store(cells, log, Acted::Done, limits::H0, x);
-            Acted::Done
-        }
-        _ => control::copy_to(cells, log, Acted::Done, x.num),
+        away: true,
+        end: at,
     }
 }
 
@@ -162,224 +155,76 @@ fn operate(
     log: &mut [u64],
     order: &mut Order,
     marks: &mut Marks,
-    line: &mut Line,
-    letters: &Letters,
-    counts: &Counts,
-    n: usize,
-    top: u16,
-    room: usize,
-    p: u8,
-    x: Symbol,
+    table: &Table,
+    out: &mut [u8],
+    at: usize,
+    f: Fetched,
 ) -> Operated
-    requires { ⌜ Clean (now cells) (now order) (now marks) × Room (now log) (6 * length (now cells) + 73) × (length (now line) ≡ longestLine) ⌝ }
-    ensures { λ r. ⌜ Steps (Known (tableOf (now (letters .entry)) (now (counts .entry)) n) room top) (6 * length (now (cells .entry)) + 73) (operate p x)
-        (now (cells .entry)) (now (log .entry)) Done
-        (now (cells .exit)) (now (log .exit)) (now (order .exit)) (now (marks .exit)) (now (line .exit)) (r .go) (r .len) (controlOf (r .moved)) ⌝ }
+    requires { ⌜ Lends (3 * length (now cells) + 41) (now cells) (now log) (now order) (now marks) (now table) (now out) at ⌝ }
+    ensures { λ r. ⌜ Steps (3 * length (now (cells .entry)) + 41) (operate (f .p) (f .x)) cells log table out at (record { go = r .go; end = r .end }) (controlOf (r .away)) ⌝ }
+    ensures { λ _. ⌜ Clean (now (cells .exit)) (now (order .exit)) (now (marks .exit)) ⌝ }
 {
+    let p = f.p;
+    let x = f.x;
     match p {
-        0 => execute(
-            cells,
-            log,
-            order,
-            marks,
-            line,
-            letters,
-            counts,
-            n,
-            top,
-            room,
-            x,
-        ),
+        0 => execute(cells, log, order, marks, table, out, at, x),
         1..=6 => {
-            let go = on_symbol(cells, log, top, p, x);
+            let go = control::on_symbol(cells, log, 0, top_of(table), p, x);
             Operated {
                 go: go,
-                moved: false,
-                len: 0,
+                away: false,
+                end: at,
             }
         }
-        _ => {
-            let moved = control::branch(cells, log, Acted::Done, x);
+        7..=255 => {
+            let away = control::branch(cells, log, 0, x);
             Operated {
-                go: Acted::Done,
-                moved: moved,
-                len: 0,
+                go: 0,
+                away: away,
+                end: at,
             }
         }
     }
 }
 
-// What is to be done: P, S and the LINK.
-struct Fetched {
-    go: Acted,
-    p: u8,
-    x: Symbol,
-    link: u16,
-}
-
-// A word w that was fetched from cell c.
-fn order_in(cells: &[u64], a: Acted, top: u16, c: u16, w: u64) -> Fetched
-    ensures { λ r. ⌜ Reads (Top top) (orderIn c (wordOf w)) (now (cells .entry)) a (r .go) (orderOf r) ⌝ }
-{
-    let b = undo::refuse_if(a, w / cells::Q % 256 == 4, Refusal::WrongKind(c));
-    let d = acts::not_own(b, c);
-    let g = acts::designate(
-        cells,
-        d,
-        top,
-        (w / cells::Q % 256) as u8,
-        (w / cells::SYMB % 65536) as u16,
-    );
-    let go = g.go;
-    let x = g.x;
-    Fetched {
-        go: go,
-        p: (w / cells::P % 256) as u8,
-        x: x,
-        link: (w % 65536) as u16,
-    }
-}
-
-// "fetch the word H1 names and its LINK"; "A process cell fetched directly does its process; its LINK reads as 0".
-fn fetch(cells: &[u64], a: Acted, top: u16, c: u16) -> Fetched
-    ensures { λ r. ⌜ Reads (Top top) (fetch c) (now (cells .entry)) a (r .go) (orderOf r) ⌝ }
-{
-    let t = acts::touch(cells, a, c);
-    let b = t.go;
-    let go = undo::refuse_if(b, cells::is_term(t.x), Refusal::WrongKind(c));
-    if cells::is_process(t.x) {
-        let x = Symbol {
-            tag: Symbol::REGIONAL,
-            num: c,
-        };
-        return Fetched {
-            go: go,
-            p: 0,
-            x: x,
-            link: 0,
-        };
-    }
-    order_in(cells, go, top, c, cells::word_in(t.x))
-}
-
-// Step 3. The answer is looked at before the operation, which is then the only one that may refuse.
+// Step 3: what is to be done is fetched first. Nothing was refused then, and the operation is the only part that may refuse.
 fn interpret(
     cells: &mut [u64],
     log: &mut [u64],
     order: &mut Order,
     marks: &mut Marks,
-    line: &mut Line,
-    letters: &Letters,
-    counts: &Counts,
-    n: usize,
-    a: Acted,
-    top: u16,
-    room: usize,
-    c: u16,
-) -> Printed
-    requires { ⌜ Clean (now cells) (now order) (now marks) × Room (now log) (6 * length (now cells) + 74) × (length (now line) ≡ longestLine) ⌝ }
-    ensures { λ r. ⌜ Steps (Known (tableOf (now (letters .entry)) (now (counts .entry)) n) room top) (6 * length (now (cells .entry)) + 74) (interpret c)
-        (now (cells .entry)) (now (log .entry)) a
-        (now (cells .exit)) (now (log .exit)) (now (order .exit)) (now (marks .exit)) (now (line .exit)) (r .go) (r .len) tt ⌝ }
-{
-    let f = fetch(cells, a, top, c);
-    let go = f.go;
-    let x = f.x;
-    match go {
-        Acted::Done => {
-            let r = operate(
-                cells,
-                log,
-                order,
-                marks,
-                line,
-                letters,
-                counts,
-                n,
-                top,
-                room,
-                f.p,
-                x,
-            );
-            let done = r.go;
-            control::advance(cells, log, done, top, f.link, r.moved);
-            Printed {
-                go: done,
-                len: r.len,
-            }
-        }
-        Acted::Refused(e) => Printed {
-            go: Acted::Refused(e),
-            len: 0,
-        },
-    }
-}
-
-// Steps 2 and 3. A line is kept aside.
-fn attempt(
-    cells: &mut [u64],
-    log: &mut [u64],
-    order: &mut Order,
-    marks: &mut Marks,
-    line: &mut Line,
-    letters: &Letters,
-    counts: &Counts,
-    n: usize,
-    a: Acted,
-    top: u16,
-    room: usize,
-) -> Printed
-    requires { ⌜ Clean (now cells) (now order) (now marks) × Room (now log) (6 * length (now cells) + 74) × (length (now line) ≡ longestLine) ⌝ }
-    ensures { λ r. ⌜ Steps (Known (tableOf (now (letters .entry)) (now (counts .entry)) n) room top) (6 * length (now (cells .entry)) + 74) cycle
-        (now (cells .entry)) (now (log .entry)) a
-        (now (cells .exit)) (now (log .exit)) (now (order .exit)) (now (marks .exit)) (now (line .exit)) (r .go) (r .len) tt ⌝ }
-{
-    let h = acts::own(cells, limits::H1);
-    let c = (h / cells::SYMB % 65536) as u16;
-    if c == 0 {
-        let go = control::ascend(cells, log, a, top);
-        return Printed { go: go, len: 0 };
-    }
-    interpret(
-        cells,
-        log,
-        order,
-        marks,
-        line,
-        letters,
-        counts,
-        n,
-        a,
-        top,
-        room,
-        c,
-    )
-}
-
-// The end of a cycle: its line is written, or all its writes are undone.
-fn settle(
-    cells: &mut [u64],
-    log: &[u64],
-    line: &Line,
+    table: &Table,
     out: &mut [u8],
     at: usize,
-    go: Acted,
-    len: usize,
-) -> Cycled
-    requires { ⌜ Room (now log) 0 × (length (now line) ≡ longestLine) × (len ≤ longestLine) × Fits go (at + len) (now out) ⌝ }
-    ensures { λ r. ⌜ Settles go (at + len) (now (log .entry)) (take len (now (line .entry))) at
-        (now (cells .entry)) (now (out .entry)) (now (cells .exit)) (now (out .exit)) r ⌝ }
+    c: u16,
+) -> Printed
+    requires { ⌜ Lends (3 * length (now cells) + 41) (now cells) (now log) (now order) (now marks) (now table) (now out) at ⌝ }
+    ensures { λ r. ⌜ Steps (3 * length (now (cells .entry)) + 41) (interpret c) cells log table out at r tt ⌝ }
+    ensures { λ _. ⌜ Clean (now (cells .exit)) (now (order .exit)) (now (marks .exit)) ⌝ }
 {
-    match go {
-        Acted::Done => {
-            let end = lines::write_line(out, at, line, len);
-            Cycled::Progress(end)
-        }
-        Acted::Refused(e) => {
-            undo::rewind(cells, log);
-            Cycled::Refused(e)
-        }
+    let top = top_of(table);
+    let f = fetched::fetch(cells, 0, top, c);
+    if f.go != 0 {
+        return Printed { go: f.go, end: at };
     }
+    let r = operate(cells, log, order, marks, table, out, at, f);
+    control::advance(cells, log, r.go, top, f.link, r.away);
+    Printed {
+        go: r.go,
+        end: r.end,
+    }
+}
+
+// The end of a cycle: its line stands, or all its writes are undone.
+fn settle(cells: &mut [u64], log: &[u64], go: u32, end: usize) -> Cycled
+    requires { ⌜ Room (now log) 0 ⌝ }
+    ensures { λ r. ⌜ Settles go end (now (log .entry)) (now (cells .entry)) (now (cells .exit)) r ⌝ }
+{
+    if go == 0 {
+        return Cycled::Progress(end);
+    }
+    undo::rewind(cells, log);
+    Cycled::Refused(undo::refusal(go))
 }
 
 // A cycle that is no finish. Refused, it leaves cells and lines as it found them.
@@ -388,34 +233,21 @@ pub fn cycle(
     log: &mut [u64],
     order: &mut Order,
     marks: &mut Marks,
-    line: &mut Line,
-    letters: &Letters,
-    counts: &Counts,
-    n: usize,
-    top: u16,
+    table: &Table,
     out: &mut [u8],
     at: usize,
 ) -> Cycled
-    requires { ⌜ Ready (now cells) (now log) (now order) (now marks) (now line) × (at ≤ length (now out))
-        × (endOfRegions (tableOf (now letters) (now counts) n) firstDeck ≡ top) ⌝ }
-    ensures { λ r. ⌜ Turns (tableOf (now (letters .entry)) (now (counts .entry)) n) (now (cells .entry)) (now (out .entry)) at
-        (now (cells .exit)) (now (out .exit)) (now (log .exit)) (now (order .exit)) (now (marks .exit)) (now (line .exit)) r ⌝ }
+    requires { ⌜ Ready (now cells) (now log) (now order) (now marks) × (at ≤ length (now out)) × Told (now table) ⌝ }
+    ensures { λ r. ⌜ ((rs : List Region) → Tells (now (table .entry)) rs → Turns rs (now (cells .entry)) (now (out .entry)) at
+        (now (cells .exit)) (now (out .exit)) (now (log .exit)) (now (order .exit)) (now (marks .exit)) r) ⌝ }
 {
-    undo::fresh(log);
-    let room = out.len() - at;
-    let p = attempt(
-        cells,
-        log,
-        order,
-        marks,
-        line,
-        letters,
-        counts,
-        n,
-        Acted::Done,
-        top,
-        room,
-    );
-    let go = p.go;
-    settle(cells, log, line, out, at, go, p.len)
+    undo::begin(cells, log);
+    let h = acts::own(cells, limits::H1);
+    let c = (h / cells::SYMB % 65536) as u16;
+    if c == 0 {
+        let go = control::ascend(cells, log, 0, top_of(table));
+        return settle(cells, log, go, at);
+    }
+    let p = interpret(cells, log, order, marks, table, out, at, c);
+    settle(cells, log, p.go, p.end)
 }

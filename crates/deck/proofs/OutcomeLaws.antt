@@ -3,6 +3,7 @@ use Prim.Native.Nat.{ℕ, zero, suc, _≤_}
 use mathlib.Core.Bool.{Bool, true, false, cond, _&&_, not}
 use mathlib.Core.List.{List, [], _∷_}
 use mathlib.Core.Path.{_≡_, refl, ap, sym, _∙_}
+use mathlib.Core.Option.{Option, none, some}
 use native.Mathlib.Omega.{arith}
 use borrow.Author.Tests.{leb-true, not-true, not-false}
 use lib.Dec.{leb}
@@ -16,11 +17,11 @@ use Rattle.paper.specs.Deck.{LoadOutcome, load, ending, records, freshBook}
 use Rattle.cells.specs.Pack.{packed}
 use Rattle.cells.specs.Bridge.{unpacked}
 use Rattle.cells.proofs.Store.{unpacked-length, packed-unpacked}
-use Rattle.sound.specs.declared.Regions.{Regions}
-use Rattle.sound.specs.Table.{regionsOf, noRegions}
-use Rattle.sound.proofs.TableLaws.{none-held}
-use Rattle.book.specs.declared.Judged.{Judged}
-use Rattle.book.specs.declared.Judged.the-variants.{Fine, Refused}
+use Rattle.regions.specs.declared.Regions.{Regions}
+use Rattle.regions.specs.Table.{regionsOf, noRegions}
+use Rattle.regions.proofs.TableLaws.{none-held}
+use Rattle.book.specs.Verdict.{toldFault}
+use Rattle.book.proofs.Verdict.{told-fine}
 use Rattle.deck.specs.declared.Ended.{Ended}
 use Rattle.deck.specs.declared.Loaded.{Loaded}
 use Rattle.deck.specs.Load.{tableFrom, outcomeOf, Ends, Loads}
@@ -84,15 +85,15 @@ module _ (deck s : List ℕ) (b : Bool) (size : b ≡ sizeFits (length s)) where
     fits : sizeFits (length s) ≡ true
     fits = sym size ∙ not-false b e
 
-    comes : (j : Judged) → d .go ≡ j → load deck (unpacked s) ≡ outcomeOf (length s) j (d .at) (d .regions) t
-    comes j q = enough deck s fits ∙ h .is ∙ ap (λ (i : Judged). outcomeOf (length s) i (d .at) (d .regions) t) q
+    comes : (j : Option Fault) → toldFault (d .go) ≡ j → load deck (unpacked s) ≡ outcomeOf (length s) j (d .at) (d .regions) t
+    comes j q = enough deck s fits ∙ h .is ∙ ap (λ (i : Option Fault). outcomeOf (length s) i (d .at) (d .regions) t) q
 
-    pub loads-fine : d .go ≡ Fine → Loads deck s t (record { answer = AnswerLoaded; regions = d .regions })
-    loads-fine q = loads-as deck s _ true (comes Fine q) fits refl refl (h .made) (sym (packed-unpacked t (h .formed)))
+    pub loads-fine : d .go ≡ 0 → Loads deck s t (record { answer = AnswerLoaded; regions = d .regions })
+    loads-fine q = loads-as deck s _ true (comes none (told-fine (d .go) q)) fits refl refl (h .made) (sym (packed-unpacked t (h .formed)))
 
-    pub loads-refused : (f : Fault) {s′ : List ℕ} {r : Regions} → d .go ≡ Refused f → length t ≡ length s → s′ ≡ replicate (length t) 0
+    pub loads-refused : (f : Fault) {s′ : List ℕ} {r : Regions} → toldFault (d .go) ≡ some f → length t ≡ length s → s′ ≡ replicate (length t) 0
         → r ≡ noRegions → Loads deck s s′ (record { answer = Broken f (d .at); regions = r })
     unfolding tableFrom
     loads-refused f q l z p =
-        loads-as deck s _ true (comes (Refused f) q) fits refl (ap regionsOf p ∙ none-held) p
+        loads-as deck s _ true (comes (some f) q) fits refl (ap regionsOf p ∙ none-held) p
         (z ∙ ap (λ (n : ℕ). replicate n 0) l ∙ all-zero (length s))

@@ -2,7 +2,7 @@
 use Prim.Native.Nat.{ℕ, zero, suc, _+_, _<_, _≤_}
 use mathlib.Core.Bool.{Bool, true, false}
 use mathlib.Core.List.{List, [], _∷_}
-use mathlib.Core.Option.{Option, none}
+use mathlib.Core.Option.{Option, none, some}
 use mathlib.Core.Path.{_≡_, refl, ap, sym, _∙_}
 use native.Mathlib.Omega.{arith}
 use borrow.Author.Tests.{eq-eqb, ne-eqb, lt-ltb, le-ltb, ltb-true, ltb-false}
@@ -14,30 +14,33 @@ use Rattle.paper.specs.declared.Fault.the-variants.{PastEnd, UnknownKind, BadFi
 use Rattle.paper.specs.Step.{Res, done, refused, _>>=_, _>>_, refuse, refuseIf, ret}
 use Rattle.paper.specs.Record.{byteAt, sizeOf, recordAt}
 use Rattle.paper.specs.Deck.{Book, Load, Ended, complete, broken, onRes, closing, records, freshBook, loadOne, wellFormed}
-use Rattle.sound.specs.declared.Regions.{Regions}
-use Rattle.sound.specs.Table.{regionsOf}
-use Rattle.book.specs.declared.Judged.the-variants.{Fine, Refused}
+use Rattle.steps.specs.Follows.{Follows, Always, left}
+use Rattle.steps.proofs.Join.{to-stop}
+use Rattle.steps.proofs.Sequence.{alike-here}
+use Rattle.regions.specs.declared.Regions.{Regions}
+use Rattle.regions.specs.Table.{regionsOf}
 use Rattle.book.specs.declared.Notes.{Notes}
 use Rattle.book.specs.Kept.{Held, held, bookOf}
-use Rattle.book.specs.Did.{left, Did}
-use Rattle.deck.specs.declared.Turn.{Turn}
-use Rattle.deck.specs.Load.{oneRecord, oneParsed, Made, Turned, stopped}
+use Rattle.book.specs.Verdict.{faultBy}
+use Rattle.book.specs.Booked.{loading}
+use Rattle.book.proofs.Verdict.{told-fine, told-fault}
+use Rattle.deck.specs.declared.Placed.{Placed}
+use Rattle.deck.specs.Load.{oneRecord, oneParsed, Made, PlacesIn, stopped}
 
 -- what was done from a fine start, by its answer
 module _ {A : Type 0} {M : Load A} {h h′ : Held} {v : A} where
-  pub is-done : Did M h Fine h′ Fine v → M (bookOf h) ≡ done v (bookOf h′)
+  pub is-done : Follows loading Always 0 M h none h′ none v → M (bookOf h) ≡ done v (bookOf h′)
   unfolding left _>>_ ret
-  is-done d = d .is
+  is-done d = d .is tt tt .is
 
-  pub is-refused : (f : Fault) → Did M h Fine h′ (Refused f) v → M (bookOf h) ≡ refused f
+  pub is-refused : (f : Fault) → Follows loading Always 0 M h none h′ (some f) v → M (bookOf h) ≡ refused f
   unfolding left _>>_ ret refuse
-  is-refused f d = d .is
+  is-refused f d = d .is tt tt .is
 
 -- a record that is refused
-pub stops : {M : Load Bool} {t : Regions} {k : Notes} {s : List ℕ} {m : List Bool} (f : Fault) → M (bookOf (held (regionsOf t) k s m)) ≡ refused f
-    → Made t → Turned M t k s m s m (stopped t k f)
-unfolding left _>>_ ret refuse
-stops f e h = record { did = record { is = e; formed = λ g. g }; made = h }
+pub stops : (n : ℕ) {M : Load Bool} {t : Regions} {k : Notes} {s : List ℕ} {m : List Bool} → 0 < n
+    → M (bookOf (held (regionsOf t) k s m)) ≡ refused (faultBy n) → Made t → PlacesIn M t k s m s m (stopped t k n)
+stops n g e h = record { did = record { is = λ _ _. to-stop (faultBy n) (told-fine 0 refl) (told-fault n g) e; kept = λ f. f }; made = h }
 
 -- one record: 3, 2, and the rest
 passes : {A : Type 0} (f : Fault) (M : Load A) (b : Book) (t : Bool) → t ≡ false → (refuseIf t f >> M) b ≡ M b
@@ -72,11 +75,9 @@ module _ (size kind : ℕ) (r : List ℕ) (b : Book) where
       go false f = ltb-false _ _ f
 
 -- what is whole comes to what its record comes to
-pub turned-whole : (size kind : ℕ) (r : List ℕ) {t : Regions} {k : Notes} {s s′ : List ℕ} {m m′ : List Bool} {x : Turn} → (sizeOf kind ≡ 0 → ⊥)
-    → sizeOf kind ≤ length r → Turned (oneParsed size (recordAt r)) t k s m s′ m′ x → Turned (loadOne size kind r) t k s m s′ m′ x
-unfolding left _>>_ ret
-turned-whole size kind r n h d =
-    record { did = record { is = whole size kind r _ n h ∙ d .did .is; formed = d .did .formed }; made = d .made }
+pub placed-whole : (size kind : ℕ) (r : List ℕ) {t : Regions} {k : Notes} {s s′ : List ℕ} {m m′ : List Bool} {x : Placed} → (sizeOf kind ≡ 0 → ⊥)
+    → sizeOf kind ≤ length r → PlacesIn (oneParsed size (recordAt r)) t k s m s′ m′ x → PlacesIn (loadOne size kind r) t k s m s′ m′ x
+placed-whole size kind r n h d = record { did = alike-here (λ _ _. whole size kind r _ n h) (d .did); made = d .made }
 
 pub not-written : (size : ℕ) (o : Option _) (b : Book) → o ≡ none → oneParsed size o b ≡ refused BadField
 unfolding oneParsed wellFormed _>>=_ refuse

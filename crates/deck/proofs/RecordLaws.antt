@@ -3,6 +3,7 @@ use Prim.Native.Nat.{ℕ}
 use mathlib.Core.Bool.{Bool, true, false, _||_}
 use mathlib.Core.List.{List, [], _∷_, _++_}
 use mathlib.Core.Path.{_≡_, refl, ap, sym, _∙_, subst}
+use mathlib.Core.Option.{Option, none, some}
 use native.Mathlib.Omega.{arith}
 use lib.ListN.{set}
 use Rattle.paper.specs.Cell.{Region, Cell, word, mkWord, H, J}
@@ -10,22 +11,22 @@ use Rattle.paper.specs.declared.Fault.{Fault}
 use Rattle.paper.specs.Step.{_>>_, refuseIf, becomes}
 use Rattle.paper.specs.Deck.{Load, withCells, freshBook}
 use Rattle.cells.specs.Pack.{Packs, AllFormed}
+use Rattle.steps.specs.Follows.{Follows, Always}
+use Rattle.steps.proofs.Sequence.{then, test, undone, judged-yes, judged-no, give-as}
 use Rattle.cells.proofs.Store.{unpacked-set, formed-set}
 use Rattle.book.specs.declared.Notes.{Notes}
-use Rattle.book.specs.declared.Judged.{Judged}
-use Rattle.book.specs.declared.Judged.the-variants.{Fine, Refused}
 use Rattle.book.specs.Kept.{Held, held, bookOf}
-use Rattle.book.specs.Did.{Always, Did}
-use Rattle.deck.specs.declared.Turn.{Turn}
-use Rattle.deck.specs.Load.{ordinary, Made, Turned}
-use Rattle.book.proofs.DidLaws.{changes, then, test, skipped, judged-yes, judged-no, give, giving}
-use Rattle.sound.specs.declared.Regions.{Regions}
-use Rattle.sound.specs.Table.{regionsOf}
+use Rattle.book.specs.Booked.{loading, Booked}
+use Rattle.book.proofs.Lines.{changes}
+use Rattle.deck.specs.declared.Placed.{Placed}
+use Rattle.deck.specs.Load.{ordinary, Made, PlacesIn}
+use Rattle.regions.specs.declared.Regions.{Regions}
+use Rattle.regions.specs.Table.{regionsOf}
 
 -- H5 and H1 are filled
-pub starts : (c x y : ℕ) {rs : List Region} {k : Notes} {s s₁ s₂ : List ℕ} {m : List Bool} {a : Judged} → s₁ ≡ set s 6 x → s₂ ≡ set s₁ 2 y
+pub starts : (c x y : ℕ) {rs : List Region} {k : Notes} {s s₁ s₂ : List ℕ} {m : List Bool} {a : Option Fault} → s₁ ≡ set s 6 x → s₂ ≡ set s₁ 2 y
     → Packs x (word (mkWord 0 0 25 0)) → Packs y (word (mkWord 0 0 c 0))
-    → Did (becomes (λ b. withCells b (set (set (b .cells) (H 5) (word (mkWord 0 0 (J 4) 0))) (H 1) (word (mkWord 0 0 c 0)))))
+    → Follows loading Always 0 (becomes (λ b. withCells b (set (set (b .cells) (H 5) (word (mkWord 0 0 (J 4) 0))) (H 1) (word (mkWord 0 0 c 0)))))
     (held rs k s m) a (held rs k s₂ m) a tt
 starts c x y {rs} {k} {s} {s₁} {s₂} {m} e f p q =
     changes _ (held rs k s m) (held rs k s₂ m)
@@ -33,9 +34,9 @@ starts c x y {rs} {k} {s} {s₁} {s₂} {m} e f p q =
     (λ h. rw (f, e) (formed-set (set s 6 x) 2 y (q .formed) (formed-set s 6 x (p .formed) h)))
 
 -- the cells are laid anew, with one region more
-pub lays : (size : ℕ) (x : Region) {rs : List Region} {k k′ : Notes} {s s′ : List ℕ} {m m′ : List Bool} {a : Judged} (rs′ : List Region)
+pub lays : (size : ℕ) (x : Region) {rs : List Region} {k k′ : Notes} {s s′ : List ℕ} {m m′ : List Bool} {a : Option Fault} (rs′ : List Region)
     → rs′ ≡ rs ++ (x ∷ []) → bookOf (held rs′ k′ s′ m′) ≡ freshBook size rs′ → AllFormed s′
-    → Did (becomes (λ b. freshBook size (b .regions ++ (x ∷ [])))) (held rs k s m) a (held rs′ k′ s′ m′) a tt
+    → Follows loading Always 0 (becomes (λ b. freshBook size (b .regions ++ (x ∷ [])))) (held rs k s m) a (held rs′ k′ s′ m′) a tt
 lays size x {rs} {k} {k′} {s} {s′} {m} {m′} rs′ e b f = changes _ (held rs k s m) (held rs′ k′ s′ m′) (ap (freshBook size) (sym e) ∙ sym b) (λ _. f)
 
 -- none of three
@@ -45,23 +46,23 @@ none-holds false true c e = let z : _≡_ {A = ℕ} 0 1 = cc in absurd (omega ar
 none-holds false false c e = (refl, refl, e)
 
 -- one test of the code for two lines of the block: y counts where x does not refuse
-pub or-stops : (x y : Bool) (f : Fault) {N : Load (Unit {0})} {h : Held} → (x || y) ≡ true → (y ≡ true → Did N h Fine h (Refused f) tt)
-    → Did (refuseIf x f >> N) h Fine h (Refused f) tt
-or-stops true y f e d = test (judged-yes {K = Always} true f refl refl) tt skipped
-or-stops false y f e d = test (judged-no {K = Always} false f refl) tt (d e)
+pub or-stops : (x y : Bool) (f : Fault) {N : Load (Unit {0})} {h : Held} → (x || y) ≡ true → (y ≡ true → Follows loading Always 0 N h none h (some f) tt)
+    → Follows loading Always 0 (refuseIf x f >> N) h none h (some f) tt
+or-stops true y f e d = test (judged-yes true f refl refl refl) (undone f refl)
+or-stops false y f e d = test (judged-no false f refl) (d e)
 
 -- a record that is not the start
-pub turned : {M : Load (Unit {0})} {t : Regions} {k : Notes} {s s′ : List ℕ} {m m′ : List Bool} {r : Turn} → r .last ≡ false → Made (r .regions)
-    → Did M (held (regionsOf t) k s m) Fine (held (regionsOf (r .regions)) (r .notes) s′ m′) (r .go) tt → Turned (ordinary M) t k s m s′ m′ r
+pub placed : {M : Load (Unit {0})} {t : Regions} {k : Notes} {s s′ : List ℕ} {m m′ : List Bool} {r : Placed} → r .last ≡ false → Made (r .regions)
+    → Booked M (held (regionsOf t) k s m) 0 (held (regionsOf (r .regions)) (r .notes) s′ m′) (r .go) tt → PlacesIn (ordinary M) t k s m s′ m′ r
 unfolding ordinary
-turned l h d = record { did = giving (sym l) (then d give); made = h }
+placed l h d = record { did = then d (give-as (sym l)); made = h }
 
 -- a record by the case of x, which is known to be y
-pub turned-as : {A : Type 0} (M : A → Load Bool) {x y : A} {t : Regions} {k : Notes} {s s′ : List ℕ} {m m′ : List Bool} {r : Turn} → x ≡ y
-    → Turned (M y) t k s m s′ m′ r → Turned (M x) t k s m s′ m′ r
-turned-as {A} M {t = t} {k = k} {s = s} {s′ = s′} {m = m} {m′ = m′} {r = r} p d = subst (λ (z : A). Turned (M z) t k s m s′ m′ r) (sym p) d
+pub placed-as : {A : Type 0} (M : A → Load Bool) {x y : A} {t : Regions} {k : Notes} {s s′ : List ℕ} {m m′ : List Bool} {r : Placed} → x ≡ y
+    → PlacesIn (M y) t k s m s′ m′ r → PlacesIn (M x) t k s m s′ m′ r
+placed-as {A} M {t = t} {k = k} {s = s} {s′ = s′} {m = m} {m′ = m′} {r = r} p d = subst (λ (z : A). PlacesIn (M z) t k s m s′ m′ r) (sym p) d
 
--- a turn that is known
-pub turned-to : {M : Load Bool} {t : Regions} {k : Notes} {s s′ : List ℕ} {m m′ : List Bool} {x y : Turn} → x ≡ y → Turned M t k s m s′ m′ y
-    → Turned M t k s m s′ m′ x
-turned-to {M} {t} {k} {s} {s′} {m} {m′} p d = subst (λ (z : Turn). Turned M t k s m s′ m′ z) (sym p) d
+-- an answer that is known
+pub placed-to : {M : Load Bool} {t : Regions} {k : Notes} {s s′ : List ℕ} {m m′ : List Bool} {x y : Placed} → x ≡ y → PlacesIn M t k s m s′ m′ y
+    → PlacesIn M t k s m s′ m′ x
+placed-to {M} {t} {k} {s} {s′} {m} {m′} p d = subst (λ (z : Placed). PlacesIn M t k s m s′ m′ z) (sym p) d

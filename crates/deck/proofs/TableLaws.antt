@@ -11,9 +11,9 @@ use lib.ListN.{length, length-append}
 use Rattle.paper.specs.Limits.{largestN, firstDeck}
 use Rattle.paper.specs.Region.{Region, endOfRegions, isLetter, layout, letterTaken}
 use Rattle.paper.proofs.RegionLaws.{end-more}
-use Rattle.sound.specs.declared.Regions.{Regions}
-use Rattle.sound.specs.Table.{regionsOf, noRegions, withRegion}
-use Rattle.sound.proofs.TableLaws.{one-more, none-held, full}
+use Rattle.regions.specs.declared.Regions.{Regions}
+use Rattle.regions.specs.Table.{regionsOf, noRegions, withRegion}
+use Rattle.regions.proofs.TableLaws.{one-more, none-held, full}
 use Rattle.deck.specs.Load.{tableFrom, tableOf, unused, Made}
 
 swap : (a b c : Bool) → (a || (b || c)) ≡ (b || (a || c))

@@ -1,12 +1,12 @@
 -- What the contracts of the loader say: the outcome of a load in numbers, and what its steps rely on.
 use Prim.Native.Nat.{ℕ, zero, suc, _+_, _≤_}
-use mathlib.Core.Bool.{Bool, true, false, cond, _||_}
+use mathlib.Core.Bool.{Bool, true, false, cond}
 use mathlib.Core.List.{List, [], _∷_}
-use mathlib.Core.Option.{Option}
+use mathlib.Core.Option.{Option, none, some}
 use mathlib.Core.Path.{_≡_}
+use denote.Ref.{now}
 use lib.ListN.{length, replicate}
 use Rattle.paper.specs.declared.Fault.{Fault}
-use Rattle.paper.specs.declared.Fault.the-variants.{NotEnded}
 use Rattle.paper.specs.declared.LoadAnswer.the-variants.{Loaded as AnswerLoaded, Broken}
 use Rattle.paper.specs.Cell.{Region, word, zeros, sizeFits}
 use Rattle.paper.specs.Limits.{largestN}
@@ -16,19 +16,18 @@ use Rattle.paper.specs.Record.{Record as PaperRecord}
 use Rattle.paper.specs.Deck.{Load, LoadOutcome, load, ending, records, freshBook, wellFormed, loadRecord, isStart}
 use Rattle.cells.specs.Pack.{packed, AllFormed}
 use Rattle.cells.specs.Bridge.{unpacked}
-use Rattle.sound.specs.declared.Regions.{Regions}
-use Rattle.sound.specs.Table.{regionsOf, noRegions, withRegion}
+use Rattle.regions.specs.declared.Regions.{Regions}
+use Rattle.regions.specs.Table.{regionsOf, noRegions, withRegion, Laid}
 use Rattle.records.specs.declared.Record.{Record}
 use Rattle.records.specs.declared.Record.the-variants.{Region as RegionRecord, Routine, Datum, Number, Start}
 use Rattle.records.specs.declared.Parsed.{Parsed}
 use Rattle.records.specs.declared.Parsed.the-variants.{Is, Nothing}
-use Rattle.book.specs.declared.Judged.{Judged}
-use Rattle.book.specs.declared.Judged.the-variants.{Fine, Refused}
 use Rattle.book.specs.declared.Notes.{Notes}
-use Rattle.book.specs.Kept.{held, Laid}
-use Rattle.book.specs.Did.{Did}
+use Rattle.book.specs.Kept.{held}
+use Rattle.book.specs.Verdict.{toldFault}
+use Rattle.book.specs.Booked.{LentCells, LentNames, Booked}
 use Rattle.deck.specs.declared.Loaded.{Loaded}
-use Rattle.deck.specs.declared.Turn.{Turn}
+use Rattle.deck.specs.declared.Placed.{Placed}
 use Rattle.deck.specs.declared.Ended.{Ended}
 
 -- the table of a list of regions
@@ -57,26 +56,14 @@ oneRecord size x = loadRecord size x >> ret (isStart x)
 unfoldable pub oneParsed : ℕ → Option PaperRecord → Load Bool
 oneParsed size o = wellFormed o >>= oneRecord size
 
--- a record that is refused
-abbrev pub stopped : Regions → Notes → Fault → Turn
-stopped t k f = record { go = Refused f; last = false; notes = k; regions = t }
+-- a record that is refused, with its answer number
+abbrev pub stopped : Regions → Notes → ℕ → Placed
+stopped t k n = record { go = n; last = false; notes = k; regions = t }
 
--- a record is judged: the bytes to go on by, whether loading halts, and what the whole deck comes to
-abbrev pub after : Judged → ℕ → ℕ
-after Fine size = size
-after (Refused f) size = 0
-
-abbrev pub halted : Judged → Bool
-halted Fine = false
-halted (Refused f) = true
-
-abbrev pub ifComplete : Judged → Bool → Judged
-ifComplete a whole = cond (halted a || whole) a (Refused NotEnded)
-
--- the answer of the record loop, where it stopped, its table and the numbers left, as the outcome
-abbrev pub outcomeOf : ℕ → Judged → ℕ → Regions → List ℕ → LoadOutcome
-outcomeOf size Fine at r s = record { answer = AnswerLoaded; cells = unpacked s; regions = regionsOf r }
-outcomeOf size (Refused f) at r s = record { answer = Broken f at; cells = replicate size (word zeros); regions = [] }
+-- what the verdict of the record loop says, where it stopped, its table and the numbers left, as the outcome
+abbrev pub outcomeOf : ℕ → Option Fault → ℕ → Regions → List ℕ → LoadOutcome
+outcomeOf size none at r s = record { answer = AnswerLoaded; cells = unpacked s; regions = regionsOf r }
+outcomeOf size (some f) at r s = record { answer = Broken f at; cells = replicate size (word zeros); regions = [] }
 
 -- how many of the k letters from b on can still be those of a region
 unfoldable pub unused : List Region → ℕ → ℕ → ℕ
@@ -90,9 +77,12 @@ pub record Made (r : Regions) : Type 0 where
   pub made : r ≡ tableOf (regionsOf r)
 
 -- what a record comes to: the block's result, and a table to go on with
-pub record Turned (M : Load Bool) (t : Regions) (k : Notes) (s : List ℕ) (m : List Bool) (s′ : List ℕ) (m′ : List Bool) (r : Turn) : Type 0 where
-  pub did : Did M (held (regionsOf t) k s m) Fine (held (regionsOf (r .regions)) (r .notes) s′ m′) (r .go) (r .last)
+pub record PlacesIn (M : Load Bool) (t : Regions) (k : Notes) (s : List ℕ) (m : List Bool) (s′ : List ℕ) (m′ : List Bool) (r : Placed) : Type 0 where
+  pub did : Booked M (held (regionsOf t) k s m) 0 (held (regionsOf (r .regions)) (r .notes) s′ m′) (r .go) (r .last)
   pub made : Made (r .regions)
+
+abbrev pub Places : Load Bool → Regions → Notes → LentCells → LentNames → Placed → Type 0
+Places M t k cells names r = PlacesIn M t k (now (cells .entry)) (now (names .entry)) (now (cells .exit)) (now (names .exit)) r
 
 -- cells in range, and a mark for each
 pub record Sized (s : List ℕ) (m : List Bool) : Type 0 where
@@ -114,6 +104,6 @@ AllLettered Nothing = Unit {0}
 -- what the record loop comes to: the outcome of the definition, but for the zeros of a refused load
 pub record Ends (deck : List ℕ) (s s′ : List ℕ) (r : Ended) : Type 0 where
   pub is : ending (length s) (records (length s) (suc (length deck)) 0 deck (freshBook (length s) []))
-      ≡ outcomeOf (length s) (r .go) (r .at) (r .regions) s′
+      ≡ outcomeOf (length s) (toldFault (r .go)) (r .at) (r .regions) s′
   pub formed : AllFormed s′
   pub made : r .regions ≡ tableOf (regionsOf (r .regions))

@@ -7,12 +7,13 @@ ghost use Rattle.paper.specs.Limits.{largestN};
 ghost use Rattle.paper.specs.Deck.{nextFree, freshCell, cellsFrom, freshBook};
 ghost use Rattle.cells.specs.Pack.{Packs, AllFormed};
 ghost use Rattle.cells.specs.Bridge.{unpacked};
-ghost use Rattle.sound.specs.Table.{regionsOf};
+ghost use Rattle.regions.specs.Table.{regionsOf};
 ghost use Rattle.book.specs.Kept.{held, bookOf};
 ghost use Rattle.deck.specs.Load.{Sized};
 use book::Notes;
+use paper::Symbol;
 use paper::limits;
-use sound::Regions;
+use regions::Regions;
 
 // Cells in the width of an index.
 const H2: usize = limits::H2 as usize;
@@ -40,7 +41,7 @@ fn fresh_cell(size: usize, end: usize, c: usize) -> u64
         return cells::of_fields(0, 0, 0, 0);
     }
     if c == H2 {
-        return cells::of_fields(0, 4, 0, next_free(size, end));
+        return cells::of_fields(0, Symbol::INTERNAL, 0, next_free(size, end));
     }
     if c < J0 {
         return cells::EMPTY;

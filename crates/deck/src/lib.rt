@@ -6,20 +6,17 @@ ghost use Rattle.paper.specs.Region.{isLetter};
 ghost use Rattle.paper.specs.Record.{byteAt};
 ghost use Rattle.paper.specs.Deck.{loadWord, loadInteger, loadRegion, loadStart, loadOne};
 ghost use Rattle.cells.specs.Layout.{valueOf};
+ghost use Rattle.regions.specs.Table.{Laid};
 ghost use Rattle.records.specs.Symbols.{nameOf, recordOf, parsedOf, symbolsAt, Written};
-ghost use Rattle.book.specs.declared.Judged.{Judged};
-ghost use Rattle.book.specs.Kept.{Laid};
-ghost use Rattle.book.specs.Did.{OnTable};
-ghost use Rattle.deck.specs.Load.{Loads, Made, Turned, Sized, Lettered, AllLettered, Ends};
-ghost use Rattle.deck.specs.Load.{ordinary, oneRecord, oneParsed, stopped, after, halted, ifComplete};
+ghost use Rattle.book.specs.Booked.{OnTable};
+ghost use Rattle.deck.specs.Load.{Loads, Made, Places, Sized, Lettered, AllLettered, Ends};
+ghost use Rattle.deck.specs.Load.{ordinary, oneRecord, oneParsed, stopped};
 
 mod fresh;
 
-use book::Judged;
 use book::Notes;
 use fresh::begin;
 use fresh::zero;
-use paper::Fault;
 use paper::Field;
 use paper::LoadAnswer;
 use paper::limits;
@@ -27,7 +24,7 @@ use records::Name;
 use records::Parsed;
 use records::Read;
 use records::Record;
-use sound::Regions;
+use regions::Regions;
 
 // A word as its record writes it.
 struct Entry {
@@ -38,8 +35,8 @@ struct Entry {
 }
 
 // What a record comes to: was it the start?
-struct Turn {
-    go: Judged,
+struct Placed {
+    go: u8,
     last: bool,
     notes: Notes,
     regions: Regions,
@@ -47,7 +44,7 @@ struct Turn {
 
 // What the records come to, and where reading stopped.
 struct Ended {
-    go: Judged,
+    go: u8,
     at: usize,
     regions: Regions,
 }
@@ -65,30 +62,26 @@ fn load_word(
     notes: Notes,
     name: Name,
     w: Entry,
-) -> Turn
+) -> Placed
     requires { ⌜ Made regions ⌝ }
-    ensures { λ r. ⌜ Turned (ordinary (loadWord (nameOf name) (w .p) (w .q) (w .symb) (w .link))) regions notes
-        (now (cells .entry)) (now (names .entry)) (now (cells .exit)) (now (names .exit)) r ⌝ }
+    ensures { λ r. ⌜ Places (ordinary (loadWord (nameOf name) (w .p) (w .q) (w .symb) (w .link))) regions notes cells names r ⌝ }
 {
     let symb = w.symb;
     let link = w.link;
-    let a = book::name_fits(names, regions, notes, Judged::Fine, true, name);
-    let b = book::known(regions, a, symb);
-    let d = book::known(regions, b, link);
-    let n = book::cell_for(cells, names, regions, notes, d, name);
-    let named = n.go;
-    let k = n.notes;
-    let s = book::cell_named(cells, regions, k, named, symb);
-    let told = s.go;
-    let j = s.notes;
-    let l = book::cell_named(cells, regions, j, told, link);
-    let go = l.go;
-    let i = l.notes;
+    let go = book::name_fits(names, regions, notes, 0, true, name);
+    let go = book::known(regions, go, symb);
+    let go = book::known(regions, go, link);
+    let n = book::cell_for(cells, names, regions, notes, go, name);
+    let notes = n.notes;
+    let s = book::cell_named(cells, regions, notes, n.go, symb);
+    let notes = s.notes;
+    let l = book::cell_named(cells, regions, notes, s.go, link);
+    let notes = l.notes;
     let x = cells::of_fields(w.p, w.q, s.c, l.c);
-    Turn {
-        go: go,
+    Placed {
+        go: l.go,
         last: false,
-        notes: book::fill(cells, i, n.c, x, book::is_blank(link)),
+        notes: book::fill(cells, notes, n.c, x, book::is_blank(link)),
         regions: regions,
     }
 }
@@ -101,43 +94,41 @@ fn load_integer(
     notes: Notes,
     name: Name,
     v: u32,
-) -> Turn
+) -> Placed
     requires { ⌜ Made regions ⌝ }
-    ensures { λ r. ⌜ Turned (ordinary (loadInteger (nameOf name) (valueOf v))) regions notes
-        (now (cells .entry)) (now (names .entry)) (now (cells .exit)) (now (names .exit)) r ⌝ }
+    ensures { λ r. ⌜ Places (ordinary (loadInteger (nameOf name) (valueOf v))) regions notes cells names r ⌝ }
 {
-    let a = book::name_fits(names, regions, notes, Judged::Fine, false, name);
-    let n = book::cell_for(cells, names, regions, notes, a, name);
-    let go = n.go;
-    let k = n.notes;
-    Turn {
-        go: go,
+    let go = book::name_fits(names, regions, notes, 0, false, name);
+    let n = book::cell_for(cells, names, regions, notes, go, name);
+    let notes = n.notes;
+    Placed {
+        go: n.go,
         last: false,
-        notes: book::fill(cells, k, n.c, cells::of_term(v), false),
+        notes: book::fill(cells, notes, n.c, cells::of_term(v), false),
         regions: regions,
     }
 }
 
 // Kind 5: "After loading H5 holds J4, H1 the start cell".
-fn load_start(cells: &mut [u64], regions: Regions, notes: Notes, b: u8, n: u16) -> Judged
+fn load_start(cells: &mut [u64], regions: Regions, notes: Notes, b: u8, n: u16) -> u8
     requires { ⌜ Laid regions ⌝ }
-    ensures { λ r. ⌜ OnTable (loadStart b n) regions notes (now (cells .entry)) Judged.Fine notes (now (cells .exit)) r tt ⌝ }
+    ensures { λ r. ⌜ OnTable (loadStart b n) regions notes cells 0 notes r tt ⌝ }
 {
-    let a = book::refuse_if(Judged::Fine, notes.waiting != 0, Fault::BadName);
-    let d = book::known(regions, a, Field::Regional(b, n));
-    let go = book::closes(notes, d);
-    let c = book::cell_of(regions, b, n);
+    let go = book::refuse_if(0, notes.waiting != 0, 6);
+    let go = book::known(regions, go, Field::Regional(b, n));
+    let go = book::closes(notes, go);
+    let c = regions.cell_of(b, n);
     book::put(cells, limits::H5, cells::of_fields(0, 0, limits::J4, 0));
     book::put(cells, limits::H1, cells::of_fields(0, 0, c, 0));
     go
 }
 
-// A record that is refused.
-fn stopped(regions: Regions, notes: Notes, f: Fault) -> Turn
-    ensures { λ r. ⌜ r ≡ stopped regions notes f ⌝ }
+// A record that is refused, with its answer number.
+fn stopped(regions: Regions, notes: Notes, number: u8) -> Placed
+    ensures { λ r. ⌜ r ≡ stopped regions notes number ⌝ }
 {
-    Turn {
-        go: Judged::Refused(f),
+    Placed {
+        go: number,
         last: false,
         notes: notes,
         regions: regions,
@@ -152,18 +143,17 @@ fn load_region(
     notes: Notes,
     b: u8,
     n: u16,
-) -> Turn
+) -> Placed
     requires { ⌜ Made regions × Sized (now cells) (now names) × (isLetter b ≡ true) ⌝ }
-    ensures { λ r. ⌜ Turned (ordinary (loadRegion (length (now (cells .entry))) b n)) regions notes
-        (now (cells .entry)) (now (names .entry)) (now (cells .exit)) (now (names .exit)) r ⌝ }
+    ensures { λ r. ⌜ Places (ordinary (loadRegion (length (now (cells .entry))) b n)) regions notes cells names r ⌝ }
 {
     let full = cells.len() < regions.top() + (n as usize);
     if regions.letter_taken(b, 0) | notes.words | full {
-        return stopped(regions, notes, Fault::BadRegion);
+        return stopped(regions, notes, 5);
     }
     let more = regions.with(b, n);
-    Turn {
-        go: Judged::Fine,
+    Placed {
+        go: 0,
         last: false,
         notes: begin(cells, names, more),
         regions: more,
@@ -176,10 +166,9 @@ fn load_record(
     regions: Regions,
     notes: Notes,
     x: Record,
-) -> Turn
+) -> Placed
     requires { ⌜ Made regions × Sized (now cells) (now names) × Lettered x ⌝ }
-    ensures { λ r. ⌜ Turned (oneRecord (length (now (cells .entry))) (recordOf x)) regions notes
-        (now (cells .entry)) (now (names .entry)) (now (cells .exit)) (now (names .exit)) r ⌝ }
+    ensures { λ r. ⌜ Places (oneRecord (length (now (cells .entry))) (recordOf x)) regions notes cells names r ⌝ }
 {
     match x {
         Record::Region(b, n) => load_region(cells, names, regions, notes, b, n),
@@ -202,7 +191,7 @@ fn load_record(
             load_word(cells, names, regions, notes, name, w)
         }
         Record::Number(name, v) => load_integer(cells, names, regions, notes, name, v),
-        Record::Start(b, n) => Turn {
+        Record::Start(b, n) => Placed {
             go: load_start(cells, regions, notes, b, n),
             last: true,
             notes: notes,
@@ -217,13 +206,12 @@ fn load_parsed(
     regions: Regions,
     notes: Notes,
     x: Parsed,
-) -> Turn
+) -> Placed
     requires { ⌜ Made regions × Sized (now cells) (now names) × AllLettered x ⌝ }
-    ensures { λ r. ⌜ Turned (oneParsed (length (now (cells .entry))) (parsedOf x)) regions notes
-        (now (cells .entry)) (now (names .entry)) (now (cells .exit)) (now (names .exit)) r ⌝ }
+    ensures { λ r. ⌜ Places (oneParsed (length (now (cells .entry))) (parsedOf x)) regions notes cells names r ⌝ }
 {
     match x {
-        Parsed::Nothing => stopped(regions, notes, Fault::BadField),
+        Parsed::Nothing => stopped(regions, notes, 4),
         Parsed::Is(y) => load_record(cells, names, regions, notes, y),
     }
 }
@@ -237,17 +225,16 @@ fn load_one(
     r: &[u8],
     kind: u8,
     symbols: [Field; 3],
-) -> Turn
+) -> Placed
     requires { ⌜ Made regions × Sized (now cells) (now names) × (kind ≡ byteAt (now r) 0) × Written kind (now r) symbols (symbolsAt (now r)) ⌝ }
-    ensures { λ x. ⌜ Turned (loadOne (length (now (cells .entry))) kind (now (r .entry))) regions notes
-        (now (cells .entry)) (now (names .entry)) (now (cells .exit)) (now (names .exit)) x ⌝ }
+    ensures { λ x. ⌜ Places (loadOne (length (now (cells .entry))) kind (now (r .entry))) regions notes cells names x ⌝ }
 {
     let size = records::size_of(kind);
     if size == 0 {
-        return stopped(regions, notes, Fault::UnknownKind);
+        return stopped(regions, notes, 3);
     }
     if r.len() < size {
-        return stopped(regions, notes, Fault::PastEnd);
+        return stopped(regions, notes, 2);
     }
     load_parsed(
         cells,
@@ -258,43 +245,14 @@ fn load_one(
     )
 }
 
-// How far reading goes on: past a record that was loaded.
-fn after(go: Judged, size: usize) -> usize
-    ensures { λ r. ⌜ r ≡ after go size ⌝ }
-{
-    match go {
-        Judged::Fine => size,
-        Judged::Refused(_) => 0,
-    }
-}
-
-fn halted(go: Judged) -> bool
-    ensures { λ r. ⌜ r ≡ halted go ⌝ }
-{
-    match go {
-        Judged::Fine => false,
-        Judged::Refused(_) => true,
-    }
-}
-
-// "no kind 5, or bytes after it"
-fn if_complete(go: Judged, whole: bool) -> Judged
-    ensures { λ r. ⌜ r ≡ ifComplete go whole ⌝ }
-{
-    if halted(go) | whole {
-        return go;
-    }
-    Judged::Refused(Fault::NotEnded)
-}
-
-// One record after another, its symbols first; left at the first refusal, with its offset.
+// One record after another, its symbols first; left at the first refusal, with its offset. Then 9: "no kind 5, or bytes after it".
 fn load_records(deck: &[u8], cells: &mut [u64], names: &mut [bool]) -> Ended
     requires { ⌜ Sized (now cells) (now names) ⌝ }
     ensures { λ r. ⌜ Ends (now (deck .entry)) (now (cells .entry)) (now (cells .exit)) r ⌝ }
 {
     let mut regions = Regions::none();
     let mut notes = begin(cells, names, regions);
-    let mut go = Judged::Fine;
+    let mut go = 0;
     let mut last = false;
     let mut at = 0;
     'deck: while (at < deck.len()) & !last {
@@ -305,7 +263,7 @@ fn load_records(deck: &[u8], cells: &mut [u64], names: &mut [bool]) -> Ended
         let mut i = 0;
         while i < n {
             let Read::Symbol(f) = records::symbol(r, kind, i) else {
-                go = Judged::Refused(Fault::BadField);
+                go = 4;
                 break 'deck;
             };
             symbols[i] = f;
@@ -313,16 +271,16 @@ fn load_records(deck: &[u8], cells: &mut [u64], names: &mut [bool]) -> Ended
         }
         let t = load_one(cells, names, regions, notes, r, kind, symbols);
         go = t.go;
-        at += after(go, records::size_of(kind));
-        if halted(go) {
+        if go != 0 {
             break 'deck;
         }
+        at += records::size_of(kind);
         regions = t.regions;
         notes = t.notes;
         last = t.last;
     }
     Ended {
-        go: if_complete(go, last & (at == deck.len())),
+        go: book::refuse_if(go, !(last & (at == deck.len())), 9),
         at: at,
         regions: regions,
     }
@@ -341,21 +299,16 @@ pub fn load(deck: &[u8], cells: &mut [u64]) -> Loaded
     }
     let mut names = [false; limits::LARGEST_N];
     let r = load_records(deck, cells, &mut names[..n]);
-    let go = r.go;
-    match go {
-        Judged::Fine => {
-            let regions = r.regions;
-            Loaded {
-                answer: LoadAnswer::Loaded,
-                regions: regions,
-            }
-        }
-        Judged::Refused(f) => {
-            zero(cells);
-            Loaded {
-                answer: LoadAnswer::Broken(f, r.at),
-                regions: Regions::none(),
-            }
-        }
+    if r.go == 0 {
+        let regions = r.regions;
+        return Loaded {
+            answer: LoadAnswer::Loaded,
+            regions: regions,
+        };
+    }
+    zero(cells);
+    Loaded {
+        answer: LoadAnswer::Broken(book::fault(r.go), r.at),
+        regions: Regions::none(),
     }
 }

@@ -1,2 +1,2 @@
--- Laws that the proofs of the list processes cite.
+-- Laws that the proofs cite: words by their numbers.
 pub mod Words

@@ -5,7 +5,8 @@ use mathlib.Core.Path.{_≡_, refl, ap, _∙_, sym}
 use native.Mathlib.Omega.{arith}
 use borrow.Author.Tests.{eq-eqb, ne-eqb, eqb-true, eqb-false, ltb-true}
 use lib.Dec.{eqb, ltb}
-use Rattle.paper.specs.Cell.{Word, word, isWord, wordIn}
+use Rattle.paper.specs.declared.Symbol.{Symbol}
+use Rattle.paper.specs.Cell.{Word, word, mkWord, symbolOf, isWord, wordIn}
 use Rattle.paper.specs.Process.{isEnd}
 use Rattle.cells.specs.Layout.{unpackOf, wordOf, pOf, qOf, symbOf, linkOf}
 use Rattle.cells.specs.Pack.{Packs}
@@ -33,7 +34,11 @@ end-is w = go (eqb (pOf w) 0) (eqb (qOf w) 4) (eqb (symbOf w) 0) (eqb (linkOf w)
     go false q s l a b c d = rw a (no (pOf w) 0 a (λ z. omega arith))
 
 -- the number made for a word holds that word
-pub word-packed : {r : ℕ} {w : Word} → Packs r (word w) → wordOf r ≡ w
+word-packed : {r : ℕ} {w : Word} → Packs r (word w) → wordOf r ≡ w
 word-packed {r} {w} p =
     let k : ltb r (2 ^ 48) ≡ isWord (unpackOf r) = simp (by-kind isWord r, cond-same, cond-test) in
     ap wordIn (sym (unpack-word r (ltb-true r (2 ^ 48) (k ∙ ap isWord (p .unpacks)))) ∙ p .unpacks)
+
+-- a word with P 0 that was made for the symbol of another
+pub plain : (w : Word) {r l : ℕ} {x : Symbol} → Packs r (word (mkWord 0 (x .tag) (x .num) l)) → x ≡ symbolOf w → wordOf r ≡ mkWord 0 (w .q) (w .symb) l
+plain w {l = l} p e = word-packed p ∙ ap (λ (x : Symbol). mkWord 0 (x .tag) (x .num) l) e

@@ -1,15 +1,31 @@
-// The processes on lists, J60, J63, J64 and J68: line by line the blocks of paper/specs/Process. Each takes the answer so far and does
-// nothing where that is a refusal. (0), (1) are the symbols down H0: the words w0, w1.
+// The processes on lists: J60 next cell, J63 and J64 insert, J68 delete, J90 new empty cell; and the decision over J60 to J109, where J71, J72
+// and J74, on structures, stand elsewhere. (0), (1) are the symbols down H0: the words w0, w1.
+ghost use Prim.Native.Nat.{_≤_};
 ghost use mathlib.Core.Path.{_≡_};
+ghost use mathlib.Core.Logic.{_≢_};
 ghost use mathlib.Core.Bool.{_&&_};
-ghost use Rattle.paper.specs.Process.{isEnd, atEnd, dropEnd, moveOn, nextCell, J60, J63, J64, deleteLast, deleteNext, J68};
+ghost use Rattle.paper.specs.Process.{isEnd, atEnd, dropEnd, moveOn, nextCell, J60, J63, J64, deleteLast, deleteNext, J68, J90};
+ghost use Rattle.paper.specs.Process.{perform, then as andThen, goesOn};
 ghost use Rattle.cells.specs.Layout.{wordOf};
 ghost use Rattle.undo.specs.Log.{Room};
-ghost use Rattle.undo.specs.Did.{Top, reservedBy, Did};
-use paper::Refusal;
+ghost use Rattle.undo.specs.Did.{Always, Top, reservedBy, Did};
 use paper::Symbol;
 use paper::limits;
-use undo::Acted;
+
+// J60 to J109 but J71, J72 and J74. Those named are listed.
+pub fn on_lists(cells: &mut [u64], log: &mut [u64], go: u32, top: u16, j: u16) -> u32
+    requires { ⌜ Room (now log) 5 × (60 ≤ j) × (j ≤ 109) × (j ≢ 71) × (j ≢ 72) × (j ≢ 74) ⌝ }
+    ensures { λ r. ⌜ Did (Top top) 5 (perform j) cells log go r (andThen goesOn) ⌝ }
+{
+    match j {
+        60 => j60(cells, log, go, top),
+        63 => j63(cells, log, go, top),
+        64 => j64(cells, log, go, top),
+        68 => j68(cells, log, go, top),
+        90 => j90(cells, log, go),
+        _ => undo::refuse_if(go, true, 28, limits::J0 + j),
+    }
+}
 
 // An empty word with LINK 0.
 fn is_end(w: u64) -> bool
@@ -25,124 +41,134 @@ fn reserved_end(top: u16, c: u16, w: u64) -> bool
     is_end(w) && acts::reserved(top, c)
 }
 
-fn at_end(cells: &mut [u64], log: &mut [u64], a: Acted, top: u16, x: Symbol) -> Acted
-    requires { ⌜ Room (now log) 7 ⌝ }
-    ensures { λ r. ⌜ Did (Top top) 7 (atEnd x) (now (cells .entry)) (now (log .entry)) a (now (cells .exit)) (now (log .exit)) r tt ⌝ }
+// "at LINK 0, (0) stays, minus"
+fn at_end(cells: &mut [u64], log: &mut [u64], go: u32, top: u16, x: Symbol) -> u32
+    requires { ⌜ Room (now log) 2 ⌝ }
+    ensures { λ r. ⌜ Did (Top top) 2 (atEnd x) cells log go r tt ⌝ }
 {
-    processes::set_h5(cells, log, a, false);
-    acts::gives1(cells, log, a, top, x)
+    acts::set_h5(cells, log, go, false);
+    acts::gives1(cells, log, go, top, x)
 }
 
-fn drop_end(cells: &mut [u64], log: &mut [u64], a: Acted, top: u16, w0: u64, w: u64) -> Acted
-    requires { ⌜ Room (now log) 10 ⌝ }
-    ensures { λ r. ⌜ Did (Top top) 10 (dropEnd (wordOf w0) (wordOf w)) (now (cells .entry)) (now (log .entry)) a (now (cells .exit)) (now (log .exit)) r tt ⌝ }
+// "an empty next cell with LINK 0 is freed, the LINK made 0, and it counts as the end"
+fn drop_end(cells: &mut [u64], log: &mut [u64], go: u32, top: u16, w0: u64, w: u64) -> u32
+    requires { ⌜ Room (now log) 4 ⌝ }
+    ensures { λ r. ⌜ Did (Top top) 4 (dropEnd (wordOf w0) (wordOf w)) cells log go r tt ⌝ }
 {
     let c = (w0 / cells::SYMB % 65536) as u16;
-    undo::put(cells, log, a, c, cells::with_link(w, 0));
-    acts::release(cells, log, a, (w % 65536) as u16);
-    at_end(cells, log, a, top, cells::symbol(w0))
+    undo::put(cells, log, go, c, cells::with_link(w, 0));
+    acts::release(cells, log, go, (w % 65536) as u16);
+    at_end(cells, log, go, top, cells::symbol(w0))
 }
 
-fn move_on(cells: &mut [u64], log: &mut [u64], a: Acted, top: u16, c: u16) -> Acted
-    requires { ⌜ Room (now log) 7 ⌝ }
-    ensures { λ r. ⌜ Did (Top top) 7 (moveOn c) (now (cells .entry)) (now (log .entry)) a (now (cells .exit)) (now (log .exit)) r tt ⌝ }
+fn move_on(cells: &mut [u64], log: &mut [u64], go: u32, top: u16, c: u16) -> u32
+    requires { ⌜ Room (now log) 2 ⌝ }
+    ensures { λ r. ⌜ Did (Top top) 2 (moveOn c) cells log go r tt ⌝ }
 {
     let x = acts::name_of(top, c);
-    processes::set_h5(cells, log, a, true);
-    acts::gives1(cells, log, a, top, x)
+    acts::set_h5(cells, log, go, true);
+    acts::gives1(cells, log, go, top, x)
 }
 
-fn next_cell(cells: &mut [u64], log: &mut [u64], a: Acted, top: u16, w0: u64, w: u64) -> Acted
-    requires { ⌜ Room (now log) 10 ⌝ }
-    ensures { λ r. ⌜ Did (Top top) 10 (nextCell (wordOf w0) (wordOf w)) (now (cells .entry)) (now (log .entry)) a (now (cells .exit)) (now (log .exit)) r tt ⌝ }
+fn next_cell(cells: &mut [u64], log: &mut [u64], go: u32, top: u16, w0: u64, w: u64) -> u32
+    requires { ⌜ Room (now log) 4 ⌝ }
+    ensures { λ r. ⌜ Did (Top top) 4 (nextCell (wordOf w0) (wordOf w)) cells log go r tt ⌝ }
 {
     let l = (w % 65536) as u16;
-    let g = acts::word_at(cells, a, l);
+    let g = acts::word_at(cells, go, l);
     let v = g.x;
-    let b = g.go;
-    let d = undo::refuse_if(b, reserved_end(top, l, v), Refusal::NotToBeFreed(l));
-    let go = acts::not_own(d, l);
+    let go = undo::refuse_if(g.go, reserved_end(top, l, v), 24, l);
+    let go = acts::not_own(go, l);
     if is_end(v) {
         return drop_end(cells, log, go, top, w0, w);
     }
     move_on(cells, log, go, top, l)
 }
 
-pub fn j60(cells: &mut [u64], log: &mut [u64], a: Acted, top: u16) -> Acted
-    requires { ⌜ Room (now log) 10 ⌝ }
-    ensures { λ r. ⌜ Did (Top top) 10 J60 (now (cells .entry)) (now (log .entry)) a (now (cells .exit)) (now (log .exit)) r tt ⌝ }
+// "J60 next cell replaces (0), H5 plus": (0) is popped, and the output pushed.
+fn j60(cells: &mut [u64], log: &mut [u64], go: u32, top: u16) -> u32
+    requires { ⌜ Room (now log) 4 ⌝ }
+    ensures { λ r. ⌜ Did (Top top) 4 J60 cells log go r tt ⌝ }
 {
     let w0 = acts::own(cells, limits::H0);
-    let g = acts::named(cells, a, (w0 / cells::SYMB % 65536) as u16);
+    let g = acts::named(cells, go, (w0 / cells::SYMB % 65536) as u16);
     let w = g.x;
-    let b = g.go;
     if w % 65536 == 0 {
-        return at_end(cells, log, b, top, cells::symbol(w0));
+        return at_end(cells, log, g.go, top, cells::symbol(w0));
     }
-    next_cell(cells, log, b, top, w0, w)
+    next_cell(cells, log, g.go, top, w0, w)
 }
 
-pub fn j63(cells: &mut [u64], log: &mut [u64], a: Acted, top: u16) -> Acted
-    requires { ⌜ Room (now log) 10 ⌝ }
-    ensures { λ r. ⌜ Did (Top top) 10 J63 (now (cells .entry)) (now (log .entry)) a (now (cells .exit)) (now (log .exit)) r tt ⌝ }
-{
-    let w0 = acts::own(cells, limits::H0);
-    let g = acts::below(cells, a, limits::H0, w0);
-    let c = (g.x / cells::SYMB % 65536) as u16;
-    let b = g.go;
-    let d = acts::preserve(cells, log, b, c);
-    let e = acts::store(cells, log, d, c, cells::symbol(w0));
-    acts::pops2(cells, log, e, top)
-}
-
-pub fn j64(cells: &mut [u64], log: &mut [u64], a: Acted, top: u16) -> Acted
-    requires { ⌜ Room (now log) 9 ⌝ }
-    ensures { λ r. ⌜ Did (Top top) 9 J64 (now (cells .entry)) (now (log .entry)) a (now (cells .exit)) (now (log .exit)) r tt ⌝ }
-{
-    let w0 = acts::own(cells, limits::H0);
-    let g = acts::below(cells, a, limits::H0, w0);
-    let c = (g.x / cells::SYMB % 65536) as u16;
-    let b = g.go;
-    let f = acts::word_to(cells, b, c);
-    let w = f.x;
-    let h = f.go;
-    let d = acts::not_own(h, c);
-    let q = (w0 / cells::Q % 256) as u8;
-    let x = (w0 / cells::SYMB % 65536) as u16;
-    let v = cells::of_fields(0, q, x, (w % 65536) as u16);
-    let e = acts::link_below(cells, log, d, c, w, v);
-    acts::pops2(cells, log, e, top)
-}
-
-fn delete_last(cells: &mut [u64], log: &mut [u64], a: Acted, top: u16, c: u16) -> Acted
+// "J63 insert (0) before the symbol in (1): preserve cell (1), store (0) there"
+fn j63(cells: &mut [u64], log: &mut [u64], go: u32, top: u16) -> u32
     requires { ⌜ Room (now log) 5 ⌝ }
-    ensures { λ r. ⌜ Did (Top top) 5 (deleteLast c) (now (cells .entry)) (now (log .entry)) a (now (cells .exit)) (now (log .exit)) r tt ⌝ }
+    ensures { λ r. ⌜ Did (Top top) 5 J63 cells log go r tt ⌝ }
 {
-    undo::put(cells, log, a, c, cells::of_word(cells::EMPTY));
-    processes::tests1(cells, log, a, top, false)
+    let w0 = acts::own(cells, limits::H0);
+    let g = acts::below(cells, go, limits::H0, w0);
+    let c = (g.x / cells::SYMB % 65536) as u16;
+    let go = acts::preserve(cells, log, g.go, c);
+    let go = acts::store(cells, log, go, c, cells::symbol(w0));
+    acts::pops2(cells, log, go, top)
 }
 
-fn delete_next(cells: &mut [u64], log: &mut [u64], a: Acted, top: u16, c: u16, below: u16) -> Acted
-    requires { ⌜ Room (now log) 7 ⌝ }
-    ensures { λ r. ⌜ Did (Top top) 7 (deleteNext c below) (now (cells .entry)) (now (log .entry)) a (now (cells .exit)) (now (log .exit)) r tt ⌝ }
+// "J64 after it, in a new cell with P 0", whatever the next cell is.
+fn j64(cells: &mut [u64], log: &mut [u64], go: u32, top: u16) -> u32
+    requires { ⌜ Room (now log) 4 ⌝ }
+    ensures { λ r. ⌜ Did (Top top) 4 J64 cells log go r tt ⌝ }
 {
-    let b = acts::pull_up(cells, log, a, top, c, below);
-    processes::tests1(cells, log, b, top, true)
+    let w0 = acts::own(cells, limits::H0);
+    let g = acts::below(cells, go, limits::H0, w0);
+    let c = (g.x / cells::SYMB % 65536) as u16;
+    let t = acts::word_to(cells, g.go, c);
+    let w = t.x;
+    let go = acts::not_own(t.go, c);
+    let x = cells::symbol(w0);
+    let v = cells::of_fields(0, x.tag, x.num, (w % 65536) as u16);
+    let go = acts::link_below(cells, log, go, c, w, v);
+    acts::pops2(cells, log, go, top)
 }
 
-pub fn j68(cells: &mut [u64], log: &mut [u64], a: Acted, top: u16) -> Acted
-    requires { ⌜ Room (now log) 7 ⌝ }
-    ensures { λ r. ⌜ Did (Top top) 7 J68 (now (cells .entry)) (now (log .entry)) a (now (cells .exit)) (now (log .exit)) r tt ⌝ }
+// "a last cell becomes empty, H5 minus": one with LINK 0.
+fn delete_last(cells: &mut [u64], log: &mut [u64], go: u32, top: u16, c: u16) -> u32
+    requires { ⌜ Room (now log) 2 ⌝ }
+    ensures { λ r. ⌜ Did (Top top) 2 (deleteLast c) cells log go r tt ⌝ }
+{
+    undo::put(cells, log, go, c, cells::of_word(cells::EMPTY));
+    acts::tests1(cells, log, go, top, false)
+}
+
+// "the next cell is copied in and freed; H5 plus"
+fn delete_next(cells: &mut [u64], log: &mut [u64], go: u32, top: u16, c: u16, below: u16) -> u32
+    requires { ⌜ Room (now log) 3 ⌝ }
+    ensures { λ r. ⌜ Did (Top top) 3 (deleteNext c below) cells log go r tt ⌝ }
+{
+    let go = acts::pull_up(cells, log, go, top, c, below);
+    acts::tests1(cells, log, go, top, true)
+}
+
+// "J68 delete the symbol in (0)"
+fn j68(cells: &mut [u64], log: &mut [u64], go: u32, top: u16) -> u32
+    requires { ⌜ Room (now log) 3 ⌝ }
+    ensures { λ r. ⌜ Did (Top top) 3 J68 cells log go r tt ⌝ }
 {
     let w0 = acts::own(cells, limits::H0);
     let c = (w0 / cells::SYMB % 65536) as u16;
-    let g = acts::word_to(cells, a, c);
-    let l = (g.x % 65536) as u16;
-    let b = g.go;
-    let d = undo::refuse_if(b, l == c, Refusal::NotToBeFreed(c));
-    let go = acts::not_own(d, c);
+    let t = acts::word_to(cells, go, c);
+    let l = (t.x % 65536) as u16;
+    let go = undo::refuse_if(t.go, l == c, 24, c);
+    let go = acts::not_own(go, c);
     if l == 0 {
         return delete_last(cells, log, go, top, c);
     }
     delete_next(cells, log, go, top, c, l)
+}
+
+// "J90 new empty cell, its internal name pushed."
+fn j90(cells: &mut [u64], log: &mut [u64], go: u32) -> u32
+    requires { ⌜ Room (now log) 2 ⌝ }
+    ensures { λ r. ⌜ Did Always 2 J90 cells log go r tt ⌝ }
+{
+    let t = acts::take_as(cells, log, go, cells::of_word(cells::EMPTY));
+    acts::push(cells, log, t.go, Symbol::internal(t.c))
 }

@@ -29,8 +29,8 @@ use Rattle.paper.proofs.CycleLaws.{run-sound}
 use Rattle.paper.proofs.Demand1.{Runnable, FreeListed, free-listed}
 use Rattle.cells.specs.Pack.{packOf, packed}
 use Rattle.cells.proofs.Store.{unpacked-length}
-use Rattle.sound.specs.declared.Regions.{Regions}
-use Rattle.sound.specs.Table.{regionsOf}
+use Rattle.regions.specs.declared.Regions.{Regions}
+use Rattle.regions.specs.Table.{regionsOf}
 use Rattle.sound.specs.Store.{stateWith, storeSound}
 use Rattle.sound.proofs.SoundLaws.{passed-sound, in-form}
 use Rattle.sound.proofs.FitLaws.{sound-fits, unpacked-packed, packed-formed}

@@ -5,6 +5,7 @@ use mathlib.Core.Bool.{Bool, true, false, _&&_}
 use lib.Dec.{leb}
 use borrow.Author.Tests.{leb-true, lt-leb, le-leb}
 use mathlib.Core.List.{List, [], _++_}
+use mathlib.Core.Option.{some}
 use native.Mathlib.Omega.{arith}
 use native.Mathlib.Numerals.{add-one}
 use lib.ListN.{length, take, drop, take-append-drop}
@@ -20,10 +21,12 @@ use Rattle.paper.proofs.SoundStore.{and-true}
 use Rattle.cells.specs.Pack.{AllFormed}
 use Rattle.cells.specs.Bridge.{unpacked, stateOf}
 use Rattle.cells.proofs.Store.{unpacked-length, packed-unpacked}
-use Rattle.sound.specs.declared.Regions.{Regions}
-use Rattle.sound.specs.Table.{regionsOf}
+use Rattle.regions.specs.declared.Regions.{Regions}
+use Rattle.regions.specs.Table.{regionsOf}
 use Rattle.sound.specs.Store.{stateWith, storeSound}
+use Rattle.sound.specs.Asked.{unfit}
 use Rattle.sound.proofs.SoundLaws.{passed-formed, passed-sound}
+use Rattle.sound.proofs.AskLaws.{unfit-size, unfit-unsound, fit}
 use Rattle.cycle.specs.Turns.{stateAt, cycled}
 use Rattle.machine.specs.declared.Ran.{Ran}
 use Rattle.machine.specs.Numbers.{numbers, untouched, inNumbers, cyclesOn, runOn}
@@ -96,21 +99,23 @@ past-later at n out out₀ h p =
 
 -- the answers before any cycle, and the cycles
 module _ (r : Regions) (budget : ℕ) (s out : List ℕ) where
-  pub run-size : sizeFits (length s) ≡ false → untouched BadSize s out ≡ runOn r budget s out
+  pub run-unfit : (a : RunAnswer) → unfit r s ≡ some a → untouched a s out ≡ runOn r budget s out
   unfolding runOn
-  run-size e = rw (e, runOn)
+  run-unfit a e = rw (e, runOn)
+
+  pub run-size : sizeFits (length s) ≡ false → untouched BadSize s out ≡ runOn r budget s out
+  run-size e = run-unfit BadSize (unfit-size r s e)
 
   module _ (size : sizeFits (length s) ≡ true) where
     pub run-unsound : storeSound r s ≡ false → untouched NotSound s out ≡ runOn r budget s out
-    unfolding runOn
-    run-unsound f = rw (size, f, runOn)
+    run-unsound f = run-unfit NotSound (unfit-unsound r s size f)
 
     sized : sizeFits (length (unpacked s)) ≡ true
     sized = ap sizeFits (unpacked-length s) ∙ size
 
     passes : storeSound r s ≡ true → inNumbers out (run budget (stateWith r s [] (length out))) ≡ runOn r budget s out
     unfolding runOn
-    passes f = rw (size, f, runOn)
+    passes f = rw (fit r s size f, runOn)
 
     abbrev st : State
     st = stateWith r s [] (length out)

@@ -1,17 +1,17 @@
 -- A run on the lent numbers, a table and the lent bytes: as `run` of paper/specs/Run has it. Numbers or a table out of form are 20 too.
 use Prim.Native.Nat.{ℕ}
-use mathlib.Core.Bool.{Bool, true, false, _&&_}
+use mathlib.Core.Bool.{Bool}
 use mathlib.Core.List.{List, [], _++_}
+use mathlib.Core.Option.{none, some}
 use lib.ListN.{length, drop}
-use lib.Dec.{leb}
 use Rattle.paper.specs.declared.RunAnswer.{RunAnswer}
-use Rattle.paper.specs.declared.RunAnswer.the-variants.{BadSize, NotSound}
-use Rattle.paper.specs.Cell.{Region, sizeFits}
+use Rattle.paper.specs.Cell.{Region}
 use Rattle.paper.specs.Run.{Outcome, isFinished, runFrom, run}
 use Rattle.cells.specs.Pack.{packed}
 use Rattle.cells.specs.Bridge.{stateOf}
-use Rattle.sound.specs.declared.Regions.{Regions}
-use Rattle.sound.specs.Store.{stateWith, storeSound}
+use Rattle.regions.specs.declared.Regions.{Regions}
+use Rattle.sound.specs.Store.{stateWith}
+use Rattle.sound.specs.Asked.{unfit}
 use Rattle.machine.specs.declared.Ran.{Ran}
 
 -- the answer with its cycles and how many bytes of lines, the numbers and the bytes afterwards
@@ -35,13 +35,9 @@ inNumbers out o =
     let t = o .state .lines in
     record { answer = o .answer; cycles = o .cycles; len = length t; cells = packed (o .state .cells); out = t ++ drop (length t) out }
 
--- 1: "N out of range"; 20: "store not sound, or budget over 1,000,000"; else as `run`
+-- 1 and 20 are asked first; "store not sound, or budget over 1,000,000" is 20 either way; else as `run`
 unfoldable pub runOn : Regions → ℕ → List ℕ → List ℕ → Numbers
-runOn r budget s out =
-    elim (sizeFits (length s)) [
-      | false ↦ untouched BadSize s out
-      | true ↦ elim (storeSound r s) [ false ↦ untouched NotSound s out | true ↦ inNumbers out (run budget (stateWith r s [] (length out))) ]
-    ]
+runOn r budget s out = elim (unfit r s) [ some a ↦ untouched a s out | none ↦ inNumbers out (run budget (stateWith r s [] (length out))) ]
 
 -- the cycles of a run, on numbers that are in form
 abbrev pub cyclesOn : List Region → ℕ → List ℕ → List ℕ → Numbers

@@ -1,25 +1,23 @@
 // A run: cycles until the finish, the budget or a refusal. Line by line paper/specs/Run.
 ghost use mathlib.Core.Path.{_≡_};
-ghost use Prim.Native.Nat.{_≤_};
-ghost use lib.ListN.{length};
-ghost use Rattle.paper.specs.Limits.{firstDeck};
-ghost use Rattle.paper.specs.Cell.{endOfRegions};
+ghost use mathlib.Core.List.{List};
+ghost use Rattle.paper.specs.Cell.{Region};
 ghost use Rattle.cells.specs.Pack.{AllFormed};
-ghost use Rattle.lines.specs.Ran.{tableOf};
+ghost use Rattle.regions.specs.Lent.{Tells};
+ghost use Rattle.cycle.specs.Parts.{Told};
 ghost use Rattle.cycle.specs.Turns.{Ready};
 ghost use Rattle.machine.specs.Numbers.{numbers, isFinishedIn, cyclesOn, runOn};
 use cycle::Cycled;
-use lines::Counts;
-use lines::Letters;
-use lines::Line;
 use paper::RunAnswer;
 use paper::limits;
-use sound::Regions;
-use walk::Marks;
-use walk::Order;
+use regions::Regions;
+use regions::Table;
+use sound::Asked;
+use structures::Marks;
+use structures::Order;
 
-// A cycle makes at most six writes a cell and 74 more; the log takes two numbers a write, and one to count them.
-const LOG: usize = 2 * (6 * limits::LARGEST_N + 74) + 1;
+// A cycle logs at most three writes a cell and 41 more. The log takes two numbers a write, one to count them, and four for the cells it saves.
+const LOG: usize = 2 * (3 * limits::LARGEST_N + 41) + 5;
 
 // The answer of a run, the cycles done, and how many bytes its lines have.
 pub struct Ran {
@@ -52,18 +50,13 @@ fn cycles(
     log: &mut [u64],
     order: &mut Order,
     marks: &mut Marks,
-    line: &mut Line,
-    letters: &Letters,
-    counts: &Counts,
-    n: usize,
-    top: u16,
+    table: &Table,
     budget: u32,
     out: &mut [u8],
 ) -> Ran
-    requires { ⌜ Ready (now cells) (now log) (now order) (now marks) (now line) × AllFormed (now cells)
-        × (endOfRegions (tableOf (now letters) (now counts) n) firstDeck ≡ top) ⌝ }
-    ensures { λ r. ⌜ numbers r (now (cells .exit)) (now (out .exit))
-        ≡ cyclesOn (tableOf (now (letters .entry)) (now (counts .entry)) n) budget (now (cells .entry)) (now (out .entry)) ⌝ }
+    requires { ⌜ Ready (now cells) (now log) (now order) (now marks) × AllFormed (now cells) × Told (now table) ⌝ }
+    ensures { λ r. ⌜ ((rs : List Region) → Tells (now (table .entry)) rs
+        → numbers r (now (cells .exit)) (now (out .exit)) ≡ cyclesOn rs budget (now (cells .entry)) (now (out .entry))) ⌝ }
 {
     let mut done = 0;
     let mut at = 0;
@@ -71,19 +64,7 @@ fn cycles(
         if done == budget {
             return came_to(RunAnswer::BudgetSpent, done, at);
         }
-        let c = cycle::cycle(
-            cells,
-            log,
-            order,
-            marks,
-            line,
-            letters,
-            counts,
-            n,
-            top,
-            out,
-            at,
-        );
+        let c = cycle::cycle(cells, log, order, marks, table, out, at);
         match c {
             Cycled::Progress(end) => {
                 at = end;
@@ -99,33 +80,18 @@ fn cycles(
 pub fn run(cells: &mut [u64], regions: Regions, budget: u32, out: &mut [u8]) -> Ran
     ensures { λ r. ⌜ numbers r (now (cells .exit)) (now (out .exit)) ≡ runOn regions budget (now (cells .entry)) (now (out .entry)) ⌝ }
 {
-    if !sound::size_fits(cells.len()) {
-        return came_to(RunAnswer::BadSize, 0, 0);
+    let q = sound::asks(cells, regions);
+    match q {
+        Asked::Not(a) => came_to(a, 0, 0),
+        Asked::Top(_) => {
+            if budget > limits::LARGEST_BUDGET {
+                return came_to(RunAnswer::NotSound, 0, 0);
+            }
+            let table = regions.table();
+            let mut log = [0u64; LOG];
+            let mut order = [0u16; limits::LARGEST_N];
+            let mut marks = [0u16; limits::LARGEST_N];
+            cycles(cells, &mut log, &mut order, &mut marks, &table, budget, out)
+        }
     }
-    if budget > limits::LARGEST_BUDGET {
-        return came_to(RunAnswer::NotSound, 0, 0);
-    }
-    if !sound::sound(cells, regions) {
-        return came_to(RunAnswer::NotSound, 0, 0);
-    }
-    let top = regions.top() as u16;
-    let letters = regions.letters;
-    let counts = regions.counts;
-    let mut log = [0u64; LOG];
-    let mut order = [0u16; limits::LARGEST_N];
-    let mut marks = [0u16; limits::LARGEST_N];
-    let mut line = [0u8; limits::LONGEST_LINE];
-    cycles(
-        cells,
-        &mut log,
-        &mut order,
-        &mut marks,
-        &mut line,
-        &letters,
-        &counts,
-        regions.n,
-        top,
-        budget,
-        out,
-    )
 }

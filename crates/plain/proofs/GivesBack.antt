@@ -15,7 +15,7 @@ use Rattle.paper.specs.declared.Refusal.{Refusal}
 use Rattle.paper.specs.Act.{Act, Res, done, refused}
 use Rattle.paper.specs.Walk.{walkBack}
 use Rattle.paper.specs.Process.{J72, J74}
-use Rattle.paper.specs.Plain.{acted, afterAct, plainly, preserveH0}
+use Rattle.paper.specs.Plain.{afterAct, plainly, preserveH0}
 use Rattle.paper.proofs.SoundStore.{Frame, Sound, and-true, never}
 use Rattle.paper.proofs.SoundTest.{sound-from, sound-passes, size-passes}
 use Rattle.paper.proofs.ActLaws.{s-preserve}
@@ -25,8 +25,8 @@ use Rattle.paper.proofs.Demand1.{Runnable}
 use Rattle.paper.proofs.Demand3.{CanCopy, plainly-back, inH0, Erased, J72-frees}
 use Rattle.cells.specs.Pack.{packed}
 use Rattle.cells.proofs.Store.{unpacked-length, packed-unpacked}
-use Rattle.sound.specs.declared.Regions.{Regions}
-use Rattle.sound.specs.Table.{regionsOf}
+use Rattle.regions.specs.declared.Regions.{Regions}
+use Rattle.regions.specs.Table.{regionsOf}
 use Rattle.sound.specs.Store.{stateWith, storeSound}
 use Rattle.sound.proofs.SoundLaws.{passed-formed, passed-sound}
 use Rattle.sound.proofs.FitLaws.{EachFits, sound-fits, unpacked-packed, packed-formed}
@@ -146,7 +146,8 @@ module _ (r : Regions) (s : List ℕ) (size : sizeFits (length s) ≡ true) (pas
       so x f = e ∙ begins J72 ∙ ap inNumbers (acts-on J72 given runnable ∙ ap (λ y. afterAct given y) f)
 
       go : (x : Res State Refusal (Unit {0})) → J72 given ≡ x
-          → (t : State) × (back : List ℕ) × (s₁ ≡ packed (t .cells)) × (walkBack (inH0 given .symb) given ≡ done back given) × Erased given t (inH0 given .link ∷ reverse back)
+          → (t : State) × (back : List ℕ) × (s₁ ≡ packed (t .cells)) × (walkBack (inH0 given .symb) given ≡ done back given)
+          × Erased given t (inH0 given .link ∷ reverse back)
       go (done u t) f =
           let (back, w, x) = J72-frees given t runnable f in
           (t, back, ap (λ (n : Numbers). n .cells) (so (done u t) f), w, x)

@@ -1,50 +1,36 @@
 -- A plain action by what its code did: the answers 1 and 20, and an action that was done or undone.
-use Prim.Native.Nat.{ℕ, suc, _≤_}
+use Prim.Native.Nat.{ℕ, _≤_}
 use mathlib.Core.Path.{_≡_, refl, sym, ap, _∙_}
 use mathlib.Core.Bool.{Bool, true, false}
 use mathlib.Core.List.{List, []}
-use mathlib.Core.Option.{none, some}
-use lib.ListN.{length, replicate}
-use lib.Dec.{leb}
-use borrow.Author.Tests.{leb-true}
+use mathlib.Core.Option.{Option, none, some}
+use lib.ListN.{length}
+use Rattle.paper.specs.declared.Refusal.{Refusal}
 use Rattle.paper.specs.declared.RunAnswer.{RunAnswer}
 use Rattle.paper.specs.declared.RunAnswer.the-variants.{Finished, BadSize, NotSound, Refused as Stopped}
 use Rattle.paper.specs.Cell.{State, sizeFits}
 use Rattle.paper.specs.Sound.{sound}
-use Rattle.paper.specs.Act.{Act, done, refused, _>>_, ret, refuse}
+use Rattle.paper.specs.Act.{Act, _>>_, ret, refuse}
 use Rattle.paper.specs.Plain.{acted, afterAct, plainly}
-use Rattle.paper.proofs.SoundStore.{and-true}
 use Rattle.cells.specs.Pack.{AllFormed}
 use Rattle.cells.specs.Bridge.{unpacked}
 use Rattle.cells.proofs.Store.{unpacked-length, packed-unpacked}
-use Rattle.undo.specs.declared.Acted.{Acted}
-use Rattle.undo.specs.declared.Acted.the-variants.{Done, Refused}
-use Rattle.undo.specs.Log.{used}
-use Rattle.undo.specs.Did.{left, Top, Did}
-use Rattle.undo.proofs.Log.{rewind-empty}
-use Rattle.sound.specs.declared.Regions.{Regions}
-use Rattle.sound.specs.Table.{regionsOf}
+use Rattle.steps.specs.Follows.{Follows, left}
+use Rattle.undo.specs.Verdict.{told}
+use Rattle.undo.specs.Log.{Begun}
+use Rattle.undo.specs.Did.{Top, lent}
+use Rattle.undo.proofs.Verdict.{told-done}
+use Rattle.regions.specs.declared.Regions.{Regions}
+use Rattle.regions.specs.Table.{regionsOf}
 use Rattle.sound.specs.Store.{stateWith, storeSound}
+use Rattle.sound.specs.Asked.{unfit, Passed}
 use Rattle.sound.proofs.SoundLaws.{passed-formed, passed-sound, in-form}
-use Rattle.plain.specs.Numbers.{numbers, inNumbers, unfit, plainOn, Passed, settledAs}
+use Rattle.sound.proofs.AskLaws.{unfit-size, unfit-unsound, fit}
+use Rattle.plain.specs.Numbers.{numbers, inNumbers, plainOn, settledAs}
 
 -- the size of a store is that of its numbers
 pub size-is : (s : List ℕ) {b : Bool} → sizeFits (length s) ≡ b → sizeFits (length (unpacked s)) ≡ b
 size-is s e = ap sizeFits (unpacked-length s) ∙ e
-
--- 1 and 20, or neither
-module _ (r : Regions) (s : List ℕ) where
-  pub unfit-size : sizeFits (length s) ≡ false → unfit r s ≡ some BadSize
-  unfolding unfit
-  unfit-size e = rw (e, unfit)
-
-  pub unfit-unsound : sizeFits (length s) ≡ true → storeSound r s ≡ false → unfit r s ≡ some NotSound
-  unfolding unfit
-  unfit-unsound e f = rw (e, f, unfit)
-
-  pub fit : sizeFits (length s) ≡ true → storeSound r s ≡ true → unfit r s ≡ none
-  unfolding unfit
-  fit e f = rw (e, f, unfit)
 
 module _ (m : Act (Unit {0})) (r : Regions) (s : List ℕ) where
   pub plain-unfit : {a : RunAnswer} → unfit r s ≡ some a → numbers a s ≡ plainOn m r s
@@ -75,20 +61,22 @@ module _ (m : Act (Unit {0})) (r : Regions) (s : List ℕ) where
     done-or-not : inNumbers (afterAct st (m st)) ≡ plainOn m r s
     done-or-not = ap inNumbers (sym (says-acts (p .size) (passed-sound r s [] 0 (p .sound)))) ∙ plain-acts (p .size) (p .sound)
 
-    came : (a : Acted) {k : ℕ} {l s₁ l₁ : List ℕ} → Did (Top top) k m s l Done s₁ l₁ a tt → m st ≡ (left a >> ret tt) (stateWith r s₁ [] 0)
-    unfolding left _>>_ ret
-    came a d = d .is (record { regions = regionsOf r; lines = []; room = 0 }) (p .end) .is
+    module _ {k : ℕ} {l s₁ l₁ : List ℕ} where
+      came : {a : Option Refusal} → Follows lent (Top top) k m (s, l) (told 0) (s₁, l₁) a tt → m st ≡ (left a >> ret tt) (stateWith r s₁ [] 0)
+      unfolding left _>>_ ret
+      came d =
+          ap (λ b. (left b >> m) st) (sym (told-done 0 refl))
+          ∙ d .is (record { regions = regionsOf r; lines = []; room = 0 }) (p .end) .is
 
-    -- an action that was done leaves its cells; one that was refused, the numbers as they were
-    pub plain-settled : (a : Acted) {k : ℕ} {l s₁ l₁ : List ℕ} → used l ≡ 0 → Did (Top top) k m s l Done s₁ l₁ a tt
-        → settledAs a l₁ s₁ ≡ plainOn m r s
-    unfolding left _>>_ ret refuse afterAct
-    plain-settled Done {s₁ = s₁} u d =
-        ap (numbers Finished) (sym (packed-unpacked s₁ (d .formed (passed-formed r s (p .sound)))))
-        ∙ ap (λ x. inNumbers (afterAct st x)) (sym (came Done d)) ∙ done-or-not
-    plain-settled (Refused e) {l = l} u d =
-        ap (numbers (Stopped e)) (d .back ∙ rewind-empty l s u ∙ sym (packed-unpacked s (passed-formed r s (p .sound))))
-        ∙ ap (λ x. inNumbers (afterAct st x)) (sym (came (Refused e) d)) ∙ done-or-not
+      -- an action that was done leaves its cells; one that was refused, the numbers as they were
+      pub plain-settled : Begun s l → (a : Option Refusal) → Follows lent (Top top) k m (s, l) (told 0) (s₁, l₁) a tt → settledAs a l₁ s₁ ≡ plainOn m r s
+      unfolding left _>>_ ret refuse afterAct
+      plain-settled b none d =
+          ap (numbers Finished) (sym (packed-unpacked s₁ (d .kept .formed (passed-formed r s (p .sound)))))
+          ∙ ap (λ x. inNumbers (afterAct st x)) (sym (came d)) ∙ done-or-not
+      plain-settled b (some q) d =
+          ap (numbers (Stopped q)) (d .kept .back ∙ b .back ∙ sym (packed-unpacked s (passed-formed r s (p .sound))))
+          ∙ ap (λ x. inNumbers (afterAct st x)) (sym (came d)) ∙ done-or-not
 
   -- numbers and a table in form: `plainly` itself, whatever the store
   module _ (n : r .n ≤ 23) (f : AllFormed s) where
@@ -105,7 +93,3 @@ module _ (m : Act (Unit {0})) (r : Regions) (s : List ℕ) where
         at-size : (b : Bool) → sizeFits (length s) ≡ b → plainOn m r s ≡ inNumbers (plainly m st)
         at-size true e = at-sound e (storeSound r s) refl
         at-size false e = sym (plain-unfit (unfit-size r s e)) ∙ kept BadSize ∙ ap inNumbers (sym (says-size e))
-
--- a new log holds no writes
-pub empty : (n : ℕ) → used (replicate (suc n) 0) ≡ 0
-empty n = refl

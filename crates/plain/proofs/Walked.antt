@@ -1,9 +1,9 @@
 -- A walk by what its code did: the answers 1 and 20, the cells met, or a refusal.
 use Prim.Native.Nat.{ℕ, suc, _+_, _-_, _<_, _≤_}
-use mathlib.Core.Path.{_≡_, refl, sym, ap, _∙_, subst}
+use mathlib.Core.Path.{_≡_, refl, sym, ap, _∙_}
 use mathlib.Core.List.{List, [], _∷_, _++_, reverse-reverse}
 use mathlib.Core.Bool.{Bool, true, false}
-use mathlib.Core.Option.{some}
+use mathlib.Core.Option.{Option, some}
 use native.Mathlib.Numerals.{add-one}
 use native.Mathlib.Omega.{arith}
 use lib.ListN.{length, getD, take, set, replicate}
@@ -17,20 +17,20 @@ use Rattle.paper.specs.Act.{_>>_, ret, refuse}
 use Rattle.paper.specs.Walk.{walkBack}
 use Rattle.paper.specs.Plain.{walked, afterWalk, walkCall}
 use Rattle.cells.specs.Pack.{AllFormed}
-use Rattle.undo.specs.declared.Acted.{Acted}
-use Rattle.undo.specs.declared.Acted.the-variants.{Done, Refused}
-use Rattle.undo.specs.Did.{left, Always, Reads}
-use Rattle.sound.specs.declared.Regions.{Regions}
-use Rattle.sound.specs.Table.{regionsOf}
+use Rattle.steps.specs.Follows.{left}
+use Rattle.undo.specs.Verdict.{told}
+use Rattle.undo.proofs.Verdict.{told-done}
+use Rattle.regions.specs.declared.Regions.{Regions}
+use Rattle.regions.specs.Table.{regionsOf}
 use Rattle.sound.specs.Store.{stateWith, storeSound}
+use Rattle.sound.specs.Asked.{unfit, Passed}
 use Rattle.sound.proofs.SoundLaws.{passed-sound, in-form}
-use Rattle.walk.specs.declared.Walked.{Walked}
-use Rattle.walk.specs.Marks.{back}
-use Rattle.walk.specs.Walks.{Lists}
-use Rattle.plain.specs.declared.Met.{Met}
-use Rattle.plain.specs.Numbers.{unfit, Passed}
+use Rattle.sound.proofs.AskLaws.{unfit-size, unfit-unsound, fit}
+use Rattle.structures.specs.declared.Walked.{Walked}
+use Rattle.structures.specs.Marks.{back}
+use Rattle.structures.specs.Walks.{Lists}
 use Rattle.plain.specs.Walks.{padded, metOf, walkOn}
-use Rattle.plain.proofs.Settled.{unfit-size, unfit-unsound, fit, size-is}
+use Rattle.plain.proofs.Settled.{size-is}
 
 -- the first i of the order, and zeros
 abbrev pub upTo : ℕ → List ℕ → List ℕ
@@ -70,25 +70,26 @@ module _ (c : ℕ) (r : Regions) (s : List ℕ) where
     unfolding walkOn
     walks = ap metOf (sym says-walk) ∙ rw (fit r s (p .size) (p .sound), walkOn)
 
-    came : {a : Acted} {v : List ℕ} → Reads Always (walkBack c) s Done a v → walkBack c st ≡ (left a >> ret v) st
-    unfolding left _>>_ ret
-    came d = d .is (record { regions = regionsOf r; lines = []; room = 0 }) tt .is
-
-    module _ {order marks : List ℕ} {w : Walked} (l : Lists (walkBack c) s Done order marks w) where
-      read : {a : Acted} → w .go ≡ a → walkBack c st ≡ (left a >> ret (back (w .n) order)) st
-      read e = came (subst (λ a. Reads Always (walkBack c) s Done a (back (w .n) order)) e (l .says))
+    module _ {order marks : List ℕ} {w : Walked} (l : Lists (walkBack c) s 0 order marks w) where
+      read : {a : Option Refusal} → told (w .go) ≡ a → walkBack c st ≡ (left a >> ret (back (w .n) order)) st
+      unfolding left _>>_ ret
+      read e =
+          ap (λ b. (left b >> walkBack c) st) (sym (told-done 0 refl))
+          ∙ l .says .is (record { regions = regionsOf r; lines = []; room = 0 }) tt .is
+          ∙ ap (λ b. (left b >> ret (back (w .n) order)) st) e
 
       -- the cells met stand in the order, last first in the definition
-      pub walk-done : w .go ≡ Done → w .n ≤ largestN → {cells : List ℕ} → cells ≡ padded (take (w .n) order)
+      pub walk-done : w .go ≡ 0 → w .n ≤ largestN → {cells : List ℕ} → cells ≡ padded (take (w .n) order)
           → record { answer = Finished; n = w .n; cells = cells } ≡ walkOn c r s
       unfolding left _>>_ ret afterWalk
       walk-done e few f =
           ap (λ xs. record { answer = Finished; n = w .n; cells = xs }) f
-          ∙ ap (λ n. record { answer = Finished; n = n; cells = padded (take (w .n) order) }) (sym (length-take-le (w .n) order (omega (arith, l .ordered .sized))))
+          ∙ ap (λ n. record { answer = Finished; n = n; cells = padded (take (w .n) order) })
+          (sym (length-take-le (w .n) order (omega (arith, l .ordered .sized))))
           ∙ ap (λ xs. metOf (walked Finished xs)) (sym (reverse-reverse (take (w .n) order)))
-          ∙ ap (λ x. metOf (afterWalk x)) (sym (read e)) ∙ walks
+          ∙ ap (λ x. metOf (afterWalk x)) (sym (read (told-done (w .go) e))) ∙ walks
 
-      pub walk-refused : {q : Refusal} → w .go ≡ Refused q → metOf (walked (Stopped q) []) ≡ walkOn c r s
+      pub walk-refused : {q : Refusal} → told (w .go) ≡ some q → metOf (walked (Stopped q) []) ≡ walkOn c r s
       unfolding left _>>_ ret refuse afterWalk
       walk-refused e = ap (λ x. metOf (afterWalk x)) (sym (read e)) ∙ walks
 

@@ -5,10 +5,10 @@ use mathlib.Core.Option.{none, some}
 use lib.ListN.{length, replicate}
 use Rattle.paper.specs.Limits.{largestN}
 use Rattle.paper.specs.Plain.{Walked, walked, walkCall}
-use Rattle.sound.specs.declared.Regions.{Regions}
+use Rattle.regions.specs.declared.Regions.{Regions}
 use Rattle.sound.specs.Store.{stateWith}
+use Rattle.sound.specs.Asked.{unfit}
 use Rattle.plain.specs.declared.Met.{Met}
-use Rattle.plain.specs.Numbers.{unfit}
 
 -- cells, and zeros up to the largest N
 abbrev pub padded : List ℕ → List ℕ

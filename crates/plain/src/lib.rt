@@ -7,53 +7,33 @@ ghost use lib.ListN.{length, take};
 ghost use Rattle.paper.specs.Limits.{largestN};
 ghost use Rattle.paper.specs.Plain.{preserveH0, walked};
 ghost use Rattle.paper.specs.Process.{J72, J74};
-ghost use Rattle.undo.specs.declared.Acted.the-variants.{Done};
+ghost use Rattle.undo.specs.Verdict.{told};
 ghost use Rattle.undo.specs.Log.{Room};
 ghost use Rattle.undo.specs.Did.{Top, Did};
-ghost use Rattle.walk.specs.Walks.{Clean};
-ghost use Rattle.plain.specs.Numbers.{numbers, plainOn, Asks, settledAs, actionOf};
+ghost use Rattle.structures.specs.Walks.{Clean};
+ghost use Rattle.plain.specs.Numbers.{numbers, plainOn, settledAs, actionOf};
 ghost use Rattle.plain.specs.Walks.{padded, metOf, walkOn};
 use paper::RunAnswer;
 use paper::Symbol;
 use paper::limits;
-use sound::Regions;
-use undo::Acted;
-use walk::Marks;
-use walk::Order;
+use regions::Regions;
+use sound::Asked;
+use structures::Marks;
+use structures::Order;
 
-// A copy makes three writes a cell and six more; the log takes two numbers a write, and one to count them.
-const LOG: usize = 2 * (3 * limits::LARGEST_N + 6) + 1;
-
-// Where the regions of a sound store end, or the answer.
-enum Asked {
-    Top(u16),
-    Not(RunAnswer),
-}
-
-fn ask(cells: &[u64], regions: Regions) -> Asked
-    ensures { λ r. ⌜ Asks regions (now (cells .entry)) r ⌝ }
-{
-    if !sound::size_fits(cells.len()) {
-        return Asked::Not(RunAnswer::BadSize);
-    }
-    if !sound::sound(cells, regions) {
-        return Asked::Not(RunAnswer::NotSound);
-    }
-    Asked::Top(regions.top() as u16)
-}
+// A copy makes two writes a cell and two more; the log takes two numbers a write, one to count them and four for the cells it saves.
+const LOG: usize = 2 * (2 * limits::LARGEST_N + 2) + 5;
 
 // What was refused is undone.
-fn settle(cells: &mut [u64], log: &[u64], a: Acted) -> RunAnswer
+fn settle(cells: &mut [u64], log: &[u64], go: u32) -> RunAnswer
     requires { ⌜ Room (now log) 0 ⌝ }
-    ensures { λ r. ⌜ numbers r (now (cells .exit)) ≡ settledAs a (now (log .entry)) (now (cells .entry)) ⌝ }
+    ensures { λ r. ⌜ numbers r (now (cells .exit)) ≡ settledAs (told go) (now (log .entry)) (now (cells .entry)) ⌝ }
 {
-    match a {
-        Acted::Done => RunAnswer::Finished,
-        Acted::Refused(e) => {
-            undo::rewind(cells, log);
-            RunAnswer::Refused(e)
-        }
+    if go == 0 {
+        return RunAnswer::Finished;
     }
+    undo::rewind(cells, log);
+    RunAnswer::Refused(undo::refusal(go))
 }
 
 // The three actions.
@@ -70,28 +50,28 @@ fn act(
     marks: &mut Marks,
     what: Action,
     top: u16,
-) -> Acted
-    requires { ⌜ Clean (now cells) (now order) (now marks) × Room (now log) (3 * length (now cells) + 6) ⌝ }
-    ensures { λ r. ⌜ Did (Top top) (3 * length (now (cells .entry)) + 6) (actionOf what)
-        (now (cells .entry)) (now (log .entry)) Done (now (cells .exit)) (now (log .exit)) r tt ⌝ }
+) -> u32
+    requires { ⌜ Clean (now cells) (now order) (now marks) × Room (now log) (2 * length (now cells) + 2) ⌝ }
+    ensures { λ r. ⌜ Did (Top top) (2 * length (now (cells .entry)) + 2) (actionOf what) cells log 0 r tt ⌝ }
 {
     match what {
-        Action::Preserve => acts::preserve(cells, log, Acted::Done, limits::H0),
-        Action::Copy => structures::j74(cells, log, order, marks, Acted::Done, top),
-        Action::Erase => structures::j72(cells, log, order, marks, Acted::Done, top),
+        Action::Preserve => acts::preserve(cells, log, 0, limits::H0),
+        Action::Copy => structures::j74(cells, log, order, marks, 0, top),
+        Action::Erase => structures::j72(cells, log, order, marks, 0, top),
     }
 }
 
 fn plainly(cells: &mut [u64], regions: Regions, what: Action) -> RunAnswer
     ensures { λ r. ⌜ numbers r (now (cells .exit)) ≡ plainOn (actionOf what) regions (now (cells .entry)) ⌝ }
 {
-    let q = ask(cells, regions);
+    let q = sound::asks(cells, regions);
     match q {
         Asked::Not(a) => a,
         Asked::Top(top) => {
             let mut log = [0u64; LOG];
             let mut order = [0u16; limits::LARGEST_N];
             let mut marks = [0u16; limits::LARGEST_N];
+            undo::begin(cells, &mut log);
             let go = act(cells, &mut log, &mut order, &mut marks, what, top);
             settle(cells, &log, go)
         }
@@ -154,22 +134,20 @@ fn in_order(order: &Order, n: usize) -> Order
 pub fn walk(cells: &[u64], regions: Regions, x: Symbol) -> Met
     ensures { λ r. ⌜ r ≡ walkOn (x .num) regions (now (cells .entry)) ⌝ }
 {
-    let q = ask(cells, regions);
+    let q = sound::asks(cells, regions);
     match q {
         Asked::Not(a) => none_met(a),
         Asked::Top(_) => {
             let mut order = [0u16; limits::LARGEST_N];
             let mut marks = [0u16; limits::LARGEST_N];
-            let w = walk::walk(cells, &mut order, &mut marks, Acted::Done, x.num);
-            let n = w.n;
-            let go = w.go;
-            match go {
-                Acted::Done => Met {
-                    answer: RunAnswer::Finished,
-                    n: n,
-                    cells: in_order(&order, n),
-                },
-                Acted::Refused(e) => none_met(RunAnswer::Refused(e)),
+            let w = structures::walk(cells, &mut order, &mut marks, 0, x.num);
+            if w.go != 0 {
+                return none_met(RunAnswer::Refused(undo::refusal(w.go)));
+            }
+            Met {
+                answer: RunAnswer::Finished,
+                n: w.n,
+                cells: in_order(&order, w.n),
             }
         }
     }

@@ -14,8 +14,8 @@ use Rattle.records.specs.declared.Read.{Read}
 use Rattle.records.specs.declared.Read.the-variants.{Symbol, Nothing}
 use Rattle.records.specs.declared.Name.{Name as CodeName}
 use Rattle.records.specs.declared.Name.the-variants.{Regional as InRegion, Local as AsLocal, Blank as NoName}
-use Rattle.records.specs.declared.Named.{Named}
-use Rattle.records.specs.declared.Named.the-variants.{As, Nothing as NotNamed}
+use Rattle.records.specs.declared.NameRead.{NameRead}
+use Rattle.records.specs.declared.NameRead.the-variants.{As, Nothing as NotNamed}
 use Rattle.records.specs.declared.Record.{Record as CodeRecord}
 use Rattle.records.specs.declared.Record.the-variants.{Region, Routine, Datum, Number, Start}
 use Rattle.records.specs.declared.Parsed.{Parsed}
@@ -30,9 +30,9 @@ nameOf (InRegion b n) = inRegion b n
 nameOf (AsLocal n) = asLocal n
 nameOf NoName = noName
 
-abbrev pub namedOf : Named → Option Name
-namedOf (As x) = some (nameOf x)
-namedOf NotNamed = none
+abbrev pub nameReadOf : NameRead → Option Name
+nameReadOf (As x) = some (nameOf x)
+nameReadOf NotNamed = none
 
 abbrev pub recordOf : CodeRecord → Record
 recordOf (Region b n) = region b n

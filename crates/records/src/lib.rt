@@ -9,7 +9,7 @@ ghost use Rattle.paper.specs.Region.{isLetter};
 ghost use Rattle.paper.specs.Record.{region, routine, datum, number, byteAt, pairAt, field, fieldAt, sizeOf, nameAs, maySymb, mayLinkData};
 ghost use Rattle.paper.specs.Record.{given, guard, signed32, startWith, recordAt};
 ghost use Rattle.cells.specs.Layout.{valueOf};
-ghost use Rattle.records.specs.Symbols.{readOf, namedOf, recordOf, parsedOf, symbolsIn, symbolsAt, placeOf, Written};
+ghost use Rattle.records.specs.Symbols.{readOf, nameReadOf, recordOf, parsedOf, symbolsIn, symbolsAt, placeOf, Written};
 use paper::Field;
 use paper::limits;
 
@@ -44,7 +44,7 @@ pub enum Read {
 }
 
 // A NAME; nothing where the symbol may not be one (4).
-enum Named {
+enum NameRead {
     As(Name),
     Nothing,
 }
@@ -156,14 +156,14 @@ pub fn symbol(r: &[u8], kind: u8, i: usize) -> Read
 }
 
 // "A NAME of class `0` is 4".
-fn name_as(f: Field) -> Named
-    ensures { λ x. ⌜ namedOf x ≡ nameAs f ⌝ }
+fn name_as(f: Field) -> NameRead
+    ensures { λ x. ⌜ nameReadOf x ≡ nameAs f ⌝ }
 {
     match f {
-        Field::Regional(b, n) => Named::As(Name::Regional(b, n)),
-        Field::Local(n) => Named::As(Name::Local(n)),
-        Field::Zero => Named::Nothing,
-        Field::Blank => Named::As(Name::Blank),
+        Field::Regional(b, n) => NameRead::As(Name::Regional(b, n)),
+        Field::Local(n) => NameRead::As(Name::Local(n)),
+        Field::Zero => NameRead::Nothing,
+        Field::Blank => NameRead::As(Name::Blank),
     }
 }
 
@@ -211,10 +211,10 @@ fn region(b: u8, n: u16) -> Parsed
 }
 
 // "routine word: NAME, P, Q, SYMB, LINK"; "P is 0..7, Q is 0..2."
-fn routine(named: Named, p: u8, q: u8, symb: Field, link: Field) -> Parsed
-    ensures { λ x. ⌜ parsedOf x ≡ given (namedOf named) (λ name. guard (maySymb symb && leb p largestP && leb q 2) (some (routine name p q symb link))) ⌝ }
+fn routine(named: NameRead, p: u8, q: u8, symb: Field, link: Field) -> Parsed
+    ensures { λ x. ⌜ parsedOf x ≡ given (nameReadOf named) (λ name. guard (maySymb symb && leb p largestP && leb q 2) (some (routine name p q symb link))) ⌝ }
 {
-    let Named::As(name) = named else {
+    let NameRead::As(name) = named else {
         return Parsed::Nothing;
     };
     whole(
@@ -224,10 +224,10 @@ fn routine(named: Named, p: u8, q: u8, symb: Field, link: Field) -> Parsed
 }
 
 // "data word: NAME, SYMB, LINK"
-fn datum(named: Named, symb: Field, link: Field) -> Parsed
-    ensures { λ x. ⌜ parsedOf x ≡ given (namedOf named) (λ name. guard (mayLinkData link) (some (datum name symb link))) ⌝ }
+fn datum(named: NameRead, symb: Field, link: Field) -> Parsed
+    ensures { λ x. ⌜ parsedOf x ≡ given (nameReadOf named) (λ name. guard (mayLinkData link) (some (datum name symb link))) ⌝ }
 {
-    let Named::As(name) = named else {
+    let NameRead::As(name) = named else {
         return Parsed::Nothing;
     };
     whole(may_link_data(link), Record::Datum(name, symb, link))
@@ -237,10 +237,10 @@ fn datum(named: Named, symb: Field, link: Field) -> Parsed
 fn excess(n: u32) -> u32
     ensures { λ x. ⌜ valueOf x ≡ signed32 n ⌝ }
 {
-    if n < 2147483648 {
-        return n + 2147483648;
+    if n < cells::ZERO {
+        return n + cells::ZERO;
     }
-    n - 2147483648
+    n - cells::ZERO
 }
 
 fn long(high: u16, low: u16) -> u32
@@ -250,10 +250,10 @@ fn long(high: u16, low: u16) -> u32
 }
 
 // "integer: NAME, signed 32 bits"
-fn number(named: Named, high: u16, low: u16) -> Parsed
-    ensures { λ x. ⌜ parsedOf x ≡ given (namedOf named) (λ name. some (number name (signed32 (high * 65536 + low)))) ⌝ }
+fn number(named: NameRead, high: u16, low: u16) -> Parsed
+    ensures { λ x. ⌜ parsedOf x ≡ given (nameReadOf named) (λ name. some (number name (signed32 (high * 65536 + low)))) ⌝ }
 {
-    let Named::As(name) = named else {
+    let NameRead::As(name) = named else {
         return Parsed::Nothing;
     };
     Parsed::Is(Record::Number(name, excess(long(high, low))))

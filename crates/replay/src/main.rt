@@ -1,7 +1,7 @@
 // The program: a deck from standard input is loaded into 4,096 cells and run; its lines are printed, then the answer number.
 use paper::LoadAnswer;
 use paper::limits;
-use sound::Regions;
+use regions::Regions;
 
 // "It reads at most 16,384 deck bytes", and has as much room for its lines.
 const DECK: usize = 16384;

@@ -1,8 +1,7 @@
--- Laws of the table (Table, Region), of a number and of the loops over the cells (Number, Store), of the whole test (Sound),
--- and of the numbers of a sound store (Fit).
-pub mod TableLaws
-pub mod RegionLaws
+-- Laws of a number and of the loops over the cells (Number, Store), of the whole test (Sound), of what a call is answered (Ask), and of the
+-- numbers of a sound store (Fit).
 pub mod NumberLaws
 pub mod StoreLaws
 pub mod SoundLaws
+pub mod AskLaws
 pub mod FitLaws

@@ -17,10 +17,10 @@ use Rattle.cells.specs.Layout.{unpackOf}
 use Rattle.cells.specs.Bridge.{unpacked, cellIn}
 use Rattle.cells.specs.Pack.{packOf, AllFormed}
 use Rattle.cells.proofs.Store.{unpacked-length}
-use Rattle.sound.specs.declared.Regions.{Regions}
+use Rattle.regions.specs.declared.Regions.{Regions}
 use Rattle.sound.specs.declared.Tally.{Tally}
 use Rattle.sound.specs.declared.Tally.the-variants.{Unsound, Free}
-use Rattle.sound.specs.Table.{regionsOf}
+use Rattle.regions.specs.Table.{regionsOf}
 use Rattle.sound.specs.Store.{formed, allFormed, tallyOf, stateWith, storeSound}
 use Rattle.sound.proofs.NumberLaws.{zero-is}
 use Rattle.sound.proofs.StoreLaws.{passes}

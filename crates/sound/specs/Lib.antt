@@ -1,3 +1,3 @@
--- The region table of the code, and soundness of lent numbers.
-pub mod Table
+-- Soundness of lent numbers and a table, and what every call asks of them.
 pub mod Store
+pub mod Asked

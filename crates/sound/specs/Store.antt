@@ -9,10 +9,10 @@ use Rattle.paper.specs.Sound.{cellSound, cellsSound, freeCount, sound}
 use Rattle.cells.specs.Layout.{unpackOf}
 use Rattle.cells.specs.Pack.{packOf}
 use Rattle.cells.specs.Bridge.{unpacked, stateOf}
-use Rattle.sound.specs.declared.Regions.{Regions}
+use Rattle.regions.specs.declared.Regions.{Regions}
 use Rattle.sound.specs.declared.Tally.{Tally}
 use Rattle.sound.specs.declared.Tally.the-variants.{Unsound, Free}
-use Rattle.sound.specs.Table.{regionsOf}
+use Rattle.regions.specs.Table.{regionsOf}
 
 -- x is the number of a cell: no bit is set that its kind does not use
 unfoldable pub formed : ℕ → Bool

@@ -1,129 +1,22 @@
-// The region table and the test of soundness: document 01, "A store is sound if ..", for any numbers and any table.
+// The test of soundness: document 01, "A store is sound if ..", for any numbers and any table; and the question that every call begins with.
 ghost use mathlib.Core.Path.{_≡_};
-ghost use Prim.Native.Nat.{_<_, _≤_};
-ghost use lib.ListN.{length, getD, drop};
-ghost use Rattle.paper.specs.Limits.{firstDeck};
-ghost use Rattle.paper.specs.Cell.{endOfRegions, sizeFits};
-ghost use Rattle.paper.specs.Region.{layout, letterTaken, newLetter, regionsSound};
+ghost use lib.ListN.{getD};
+ghost use Rattle.paper.specs.Cell.{sizeFits};
 ghost use Rattle.paper.specs.Sound.{wordSound, freeList, freeStart};
 ghost use Rattle.cells.specs.Layout.{wordOf};
 ghost use Rattle.cells.specs.Bridge.{unpacked};
-ghost use Rattle.sound.specs.Table.{regionsOf, noRegions, withRegion};
 ghost use Rattle.sound.specs.Store.{numberSound, tallyOf, storeSound};
-
+ghost use Rattle.sound.specs.Asked.{Asks};
+use paper::RunAnswer;
 use paper::limits;
+use regions::Regions;
 
 // Limits in the widths of the places they are compared at.
 const J0: usize = limits::J0 as usize;
 
 const FIRST_DECK: usize = limits::FIRST_DECK as usize;
 
-const LARGEST_NUMBER: usize = limits::LARGEST_NUMBER as usize;
-
 const LARGEST_P: u64 = limits::LARGEST_P as u64;
-
-// Letter and count of the first n deck regions, in record order. There are 23 letters besides H, W and J.
-pub struct Regions {
-    pub letters: [u8; limits::MANY_REGIONS],
-    pub counts: [u16; limits::MANY_REGIONS],
-    pub n: usize,
-}
-
-impl Regions {
-    pub fn none() -> Self
-        ensures { λ r. ⌜ r ≡ noRegions ⌝ }
-    {
-        Self {
-            letters: [0; limits::MANY_REGIONS],
-            counts: [0; limits::MANY_REGIONS],
-            n: 0,
-        }
-    }
-
-    // One region more, at the end; a full table stays as it is.
-    pub fn with(mut self, letter: u8, count: u16) -> Self
-        ensures { λ r. ⌜ r ≡ withRegion self letter count ⌝ }
-    {
-        let n = self.n;
-        if n < limits::MANY_REGIONS {
-            self.letters[n] = letter;
-            self.counts[n] = count;
-            self.n = n + 1;
-        }
-        self
-    }
-
-    // How many regions the table holds.
-    pub fn len(self) -> usize
-        ensures { λ r. ⌜ (r ≡ length (regionsOf self)) × (r ≤ 23) ⌝ }
-    {
-        if self.n < limits::MANY_REGIONS {
-            return self.n;
-        }
-        limits::MANY_REGIONS
-    }
-
-    // Where the regions end, laid out from the first deck cell.
-    pub fn top(self) -> usize
-        ensures { λ r. ⌜ r ≡ endOfRegions (regionsOf self) firstDeck ⌝ }
-    {
-        let m = self.len();
-        let mut at = FIRST_DECK;
-        let mut i = 0;
-        while i < m {
-            at += wide(self.counts[i]);
-            i += 1;
-        }
-        at
-    }
-
-    // Whether letter b is H, W or J, or that of a region from number `from` on.
-    pub fn letter_taken(self, b: u8, from: usize) -> bool
-        ensures { λ r. ⌜ r ≡ letterTaken (layout (drop from (regionsOf self))) b ⌝ }
-    {
-        let m = self.len();
-        let mut i = from;
-        while i < m {
-            if self.letters[i] == b {
-                return true;
-            }
-            i += 1;
-        }
-        (b == b'H') | (b == b'W') | (b == b'J')
-    }
-
-    // Whether a region before those from number `from` on may have letter b.
-    fn letter_new(self, b: u8, from: usize) -> bool
-        ensures { λ r. ⌜ r ≡ newLetter b (drop from (regionsOf self)) ⌝ }
-    {
-        (b'A' <= b) & (b <= b'Z') & !self.letter_taken(b, from)
-    }
-
-    // Whether the regions are sound in n cells.
-    pub fn regions_sound(self, n: usize) -> bool
-        ensures { λ r. ⌜ r ≡ regionsSound n firstDeck (regionsOf self) ⌝ }
-    {
-        let m = self.len();
-        let mut at = FIRST_DECK;
-        let mut i = 0;
-        while i < m {
-            let letter = self.letters[i];
-            let count = wide(self.counts[i]);
-            at += count;
-            i += 1;
-            if !(self.letter_new(letter, i) & (1 <= count) & (count <= LARGEST_NUMBER) & (at <= n)) {
-                return false;
-            }
-        }
-        true
-    }
-}
-
-fn wide(x: u16) -> usize
-    ensures { λ r. ⌜ (r ≡ x) × (r < 65536) ⌝ }
-{
-    x as usize
-}
 
 // What one pass over the cells finds.
 enum Tally {
@@ -230,4 +123,23 @@ pub fn size_fits(n: usize) -> bool
     ensures { λ r. ⌜ r ≡ sizeFits n ⌝ }
 {
     (limits::SMALLEST_N <= n) & (n <= limits::LARGEST_N)
+}
+
+// Where the regions of a sound store end, or the answer.
+pub enum Asked {
+    Top(u16),
+    Not(RunAnswer),
+}
+
+// What a run and a plain call ask of a store first: 1, "N out of range", then 20, "store not sound".
+pub fn asks(cells: &[u64], regions: Regions) -> Asked
+    ensures { λ r. ⌜ Asks regions (now (cells .entry)) r ⌝ }
+{
+    if !size_fits(cells.len()) {
+        return Asked::Not(RunAnswer::BadSize);
+    }
+    if !sound(cells, regions) {
+        return Asked::Not(RunAnswer::NotSound);
+    }
+    Asked::Top(regions.top() as u16)
 }

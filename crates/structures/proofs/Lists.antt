@@ -8,11 +8,11 @@ use native.Mathlib.Numerals.{add-one}
 use lib.ListN.{length, getD, set, take, drop, drop-of-length-le}
 use lib.Seq.{take-suc, drop-cons, getD-take, length-take-le, getD-set-same, getD-set-other}
 use lib.Dec.{eqb}
-use borrow.Author.Tests.{eqb-true, eqb-false}
+use borrow.Author.Tests.{eqb-true, eqb-false, ne-eqb}
 use Rattle.paper.specs.Walk.{member, renamed}
 use Rattle.paper.proofs.SoundStore.{or-false}
-use Rattle.walk.specs.Marks.{back, Once, Only}
-use Rattle.walk.proofs.Marks.{back-more}
+use Rattle.structures.specs.Marks.{back, Once, Only}
+use Rattle.structures.proofs.Marks.{back-more}
 use Rattle.structures.specs.Copies.{newOf, newsOf}
 
 -- what is left of the first n of the order
@@ -46,6 +46,11 @@ member-back c xs = member-onto c xs [] ∙ last (member c xs)
     last true = refl
     last false = refl
 
+pub member-end : (c y : ℕ) (xs : List ℕ) → member c xs ≡ false → (c ≡ y → ⊥) → member c (xs ++ (y ∷ [])) ≡ false
+unfolding member
+member-end c y [] m n = simp (ne-eqb c y n)
+member-end c y (x ∷ xs) m n = let (a, b) = or-false (eqb c x) (member c xs) m in rw (a, member-end c y xs b n)
+
 -- no cell of the order was met before
 pub once-at : (order : List ℕ) (n i : ℕ) → n ≤ length order → i < n → Once (back n order) → member (getD order i 0) (take i order) ≡ false
 once-at order zero i l h o = absurd (omega arith)
@@ -70,13 +75,16 @@ map-append : (f : ℕ → ℕ) (xs ys : List ℕ) → map f (xs ++ ys) ≡ map f
 map-append f [] ys = refl
 map-append f (x ∷ xs) ys = ap (λ (zs : List ℕ). f x ∷ zs) (map-append f xs ys)
 
+pub news-next : (marks order : List ℕ) (i : ℕ) → i < length order → newsOf marks order (i + 1) ≡ newsOf marks order i ++ (newOf marks (getD order i 0) ∷ [])
+news-next marks order i h =
+    let f = newOf marks in
+    ap (λ k. map f (take k order)) (add-one i) ∙ ap (map f) (take-suc order i 0 h) ∙ map-append f (take i order) (getD order i 0 ∷ [])
+
 pub news-more : (marks order : List ℕ) (i t : ℕ) → i < length order → getD order i 0 < length marks → member (getD order i 0) (take i order) ≡ false
     → newsOf (set marks (getD order i 0) t) order (i + 1) ≡ newsOf marks order i ++ (t ∷ [])
 news-more marks order i t h l m =
     let o = getD order i 0 in
-    let f = newOf (set marks o t) in
-    ap (λ k. map f (take k order)) (add-one i) ∙ ap (map f) (take-suc order i 0 h) ∙ map-append f (take i order) (o ∷ [])
-    ∙ rw (news-kept marks o t (take i order) m, getD-set-same marks o t 0 l)
+    news-next (set marks o t) order i h ∙ rw (news-kept marks o t (take i order) m, getD-set-same marks o t 0 l)
 
 pub only-more : {marks seen : List ℕ} (c t : ℕ) → Only marks seen → Only (set marks c t) (c ∷ seen)
 unfolding member

@@ -1,37 +1,69 @@
 -- The blocks of an erasure and of a copy, from their loops.
-use Prim.Native.Nat.{ℕ, _+_, _*_, _≤_}
+use Prim.Native.Nat.{ℕ, _+_, _-_, _*_, _<_, _≤_}
 use mathlib.Core.Path.{_≡_, sym, ap, _∙_, subst}
-use mathlib.Core.List.{List, reverse-reverse}
+use mathlib.Core.Bool.{true, false}
+use mathlib.Core.List.{List, [], _∷_, _++_, map, reverse-reverse}
+use mathlib.Core.Option.{Option}
 use native.Mathlib.Omega.{arith}
-use lib.ListN.{length, take}
-use Rattle.paper.specs.Limits.{largestN}
-use Rattle.paper.specs.Act.{Act, _>>=_, _>>_, ret}
-use Rattle.paper.specs.Walk.{walkBack, noneReserved, releaseAll, eraseBack, takeAll, renamed, copyAll, copy}
-use Rattle.undo.specs.declared.Acted.{Acted}
-use Rattle.undo.specs.Did.{Always, Top, Reads, Did}
-use Rattle.undo.proofs.Lines.{bind, then, reads, give, any, most, alike}
-use Rattle.undo.proofs.Readings.{alike-on}
-use Rattle.walk.specs.Marks.{back, Only}
-use Rattle.walk.specs.declared.Walked.{Walked}
-use Rattle.walk.specs.Walks.{Clean, Lists}
-use Rattle.structures.specs.Copies.{newOf, newsOf, Begins}
-use Rattle.structures.proofs.Lists.{renamed-is}
+use lib.ListN.{length, take, getD}
+use lib.Seq.{length-take-le, getD-take}
+use Rattle.paper.specs.declared.Refusal.{Refusal}
+use Rattle.paper.specs.Limits.{smallestN, largestN}
+use Rattle.paper.specs.Cell.{Word, word, wordIn, withLink, isFree, cellAt}
+use Rattle.paper.specs.Act.{Act, own, put}
+use Rattle.paper.specs.Walk.{member, walkBack, noneReserved, releaseAll, eraseBack, takeAll, renamed, copyAll, copy}
+use Rattle.cells.specs.Bridge.{unpacked, cellIn}
+use Rattle.steps.specs.Follows.{Follows}
+use Rattle.steps.specs.Follows as steps
+use Rattle.steps.proofs.Sequence.{bind, then, give, give-as, any, most, alike}
+use Rattle.undo.specs.Verdict.{told}
+use Rattle.undo.specs.Did.{Always, Top, reading, lent}
+use Rattle.undo.proofs.Lines.{reads, looks}
+use Rattle.structures.specs.declared.Walked.{Walked}
+use Rattle.structures.specs.declared.copies.Found.{Found}
+use Rattle.structures.specs.Marks.{back, Once, Ordered, Clears}
+use Rattle.structures.specs.Walks.{Clean, Lists}
+use Rattle.structures.specs.Net.{freeAll, copyOf, copyInto}
+use Rattle.structures.specs.Copies.{newOf, newsOf, Begins, Run, Finds, AllNew, Prepares}
+use Rattle.structures.proofs.Marks.{back-less}
+use Rattle.structures.proofs.FreeNet.{free-net}
+use Rattle.structures.proofs.Run.{place, run-once}
+use Rattle.structures.proofs.CopyNet.{copy-into}
+use Rattle.structures.proofs.Lists.{renamed-is, news-next}
 use Rattle.structures.proofs.Loops.{no-writes}
 
+-- the cells of the order are freed by their net effect
+module _ (n : ℕ) (order : List ℕ) where
+  pub released-none : {x : List ℕ × List ℕ} {a : Option Refusal} → n ≡ 0 → Follows lent Always n (releaseAll (back n order)) x a x a tt
+  unfolding releaseAll
+  released-none e = rw e give
+
+  pub released : {s l : List ℕ} {y : List ℕ × List ℕ} {a r : Option Refusal} → (n ≡ 0 → ⊥) → n ≤ length order → 3 < length s
+      → Follows lent Always n (freeAll (back n order)) (s, l) a y r tt → Follows lent Always n (releaseAll (back n order)) (s, l) a y r tt
+  released {s} {l} {y} {a} {r} z h i d =
+      let e = back-less order n (omega arith) h in
+      subst (λ ns. Follows lent Always n (releaseAll ns) (s, l) a y r tt) (sym e)
+      (free-net _ _ i (subst (λ ns. Follows lent Always n (freeAll ns) (s, l) a y r tt) e d))
+
 -- "frees the walk in reverse order"
-pub erased : (top n : ℕ) (order : List ℕ) {s l s′ l′ : List ℕ} {a r : Acted} → Reads (Top top) (noneReserved (take n order)) s a r tt
-    → Did Always (2 * n) (releaseAll (back n order)) s l r s′ l′ r tt → Did (Top top) (2 * n) (eraseBack (back n order)) s l a s′ l′ r tt
+pub erased : (top n : ℕ) (order : List ℕ) {s l : List ℕ} {y : List ℕ × List ℕ} {a r : Option Refusal}
+    → Follows reading (Top top) 0 (noneReserved (take n order)) s a s r tt
+    → Follows lent Always n (releaseAll (back n order)) (s, l) r y r tt → Follows lent (Top top) n (eraseBack (back n order)) (s, l) a y r tt
 unfolding eraseBack
 erased top n order f d =
-    most (2 * n) (omega arith) (then (no-writes (alike-on (ap noneReserved (sym (reverse-reverse (take n order)))) f)) (any d))
+    most n (omega arith) (then (no-writes (alike (ap noneReserved (sym (reverse-reverse (take n order)))) f)) (any d))
 
--- what was walked and freed leaves the scratch clean
-pub lists-clean : {M : Act (List ℕ)} {s s′ order marks : List ℕ} {a : Acted} {r : Walked} → length s ≤ largestN → length s′ ≡ length s
-    → Lists M s a order marks r → Clean s′ order marks
-lists-clean h e w = record { small = omega arith; sized = w .ordered .sized; unmarked = w .unmarked }
+-- scratch that is as clean for as many cells
+pub clean-as : {s s′ order marks : List ℕ} → length s′ ≡ length s → Clean s order marks → Clean s′ order marks
+clean-as e c = record { large = omega (arith, c .large); small = omega (arith, c .small); sized = c .sized; unmarked = c .unmarked }
+
+-- what was walked leaves the scratch clean
+pub lists-clean : {M : Act (List ℕ)} {s s′ order₀ marks₀ order marks : List ℕ} {go : ℕ} {r : Walked} → Clean s order₀ marks₀ → length s′ ≡ length s
+    → Lists M s go order marks r → Clean s′ order marks
+lists-clean c e w = record { large = omega (arith, c .large); small = omega (arith, c .small); sized = w .ordered .sized; unmarked = w .unmarked }
 
 -- a copy of what was walked can be begun
-pub lists-begins : {M : Act (List ℕ)} {s order marks : List ℕ} {a : Acted} {r : Walked} → length s ≤ largestN → Lists M s a order marks r
+pub lists-begins : {M : Act (List ℕ)} {s order marks : List ℕ} {go : ℕ} {r : Walked} → length s ≤ largestN → Lists M s go order marks r
     → Begins order marks (r .n)
 lists-begins h w = record {
   few = omega (arith, w .few);
@@ -41,25 +73,71 @@ lists-begins h w = record {
   unmarked = w .unmarked;
 }
 
--- the cells are taken and filled, and the table tells the name
-module _ (c n : ℕ) (order marks : List ℕ) (o : Only marks (back n order)) where
+-- new cells are at hand
+module _ (order marks : List ℕ) (n : ℕ) (l : Clears order marks n) where
   abbrev olds : List ℕ
   olds = take n order
 
-  abbrev news : List ℕ
-  news = newsOf marks order n
+  abbrev new : ℕ → ℕ
+  new = newOf marks
 
-  abbrev from : List ℕ → Act ℕ
-  from os = takeAll os >>= (λ ns. copyAll (renamed os ns) os ns >> ret (renamed os ns c))
+  table : renamed olds (map new olds) ≡ new
+  table = renamed-is marks order n (l .only)
 
-  named : {s l : List ℕ} {r : Acted} {v : ℕ} → newOf marks c ≡ v → Did Always 0 (ret (renamed olds news c)) s l r s l r v
-  named {s} {l} {r} e = subst (λ w. Did Always 0 (ret (renamed olds news c)) s l r s l r w) (ap (λ f. f c) (renamed-is marks order n o) ∙ e) give
+  -- they were taken one by one
+  pub prepared-taken : {x y : List ℕ × List ℕ} {go r : ℕ} → Follows lent Always n (takeAll olds) x (told go) y (told r) (newsOf marks order n)
+      → Prepares order marks n x go y r
+  unfolding copyOf
+  prepared-taken t = record {
+    on = λ c j z e d.
+        most (n + j) (omega arith)
+        (bind _ t (then (alike (ap (λ f. copyAll f olds (map new olds)) (sym table)) d) (give-as (ap (λ f. f c) table))));
+    count = t .kept .count;
+  }
 
-  pub copied-whole : {s l s₁ l₁ s₂ l₂ : List ℕ} {a b r : Acted} {v : ℕ} (k : ℕ) → n ≤ k → Reads Always (walkBack c) s a b (back n order)
-      → Did Always (2 * n) (takeAll olds) s l b s₁ l₁ r news → Did Always n (copyAll (newOf marks) olds news) s₁ l₁ r s₂ l₂ r tt → newOf marks c ≡ v
-      → Did Always (3 * k) (copy c) s l a s₂ l₂ r v
-  unfolding copy
-  copied-whole k h w t d e =
-      most (3 * k) (omega arith)
-      (reads _ w (alike (ap from (sym (reverse-reverse olds)))
-      (bind _ t (then (alike (ap (λ f. copyAll f olds news) (sym (renamed-is marks order n o))) d) (named e)))))
+  -- or found, each once, and H2 passes over them
+  module _ {s : List ℕ} (o : Ordered s order n) {f : Found} (g : Finds s order marks n f) (a : AllNew order marks (f .n) n) where
+    fits : n ≤ length order
+    fits = omega (arith, l .few, l .sized)
+
+    run : Run (unpacked s) (wordIn (cellAt (unpacked s) 3) .link) (map new olds) (f .next)
+    unfolding cellIn
+    run = subst (λ k. Run (unpacked s) (wordIn (cellAt (unpacked s) 3) .link) (newsOf marks order k) (f .next)) (a .all) (g .run)
+
+    each : Once (map new olds)
+    each =
+        let z = a .some in
+        let m = newsOf marks order (n - 1) in
+        let x = wordIn (cellAt (unpacked s) 3) .link in
+        let e : n - 1 + 1 ≡ n = omega arith in
+        let u : newsOf marks order n ≡ m ++ (new (getD order (n - 1) 0) ∷ []) =
+        subst (λ k. newsOf marks order k ≡ m ++ (new (getD order (n - 1) 0) ∷ [])) e (news-next marks order (n - 1) (omega (arith, fits))) in
+        subst Once (sym u) (run-once (unpacked s) m x (f .next) _ (subst (λ ns. Run (unpacked s) x ns (f .next)) u run) (a .last))
+
+    in-use : (k : ℕ) → member k olds ≡ true → isFree (cellAt (unpacked s) k) ≡ false
+    unfolding cellIn
+    in-use k m =
+        let (i, h, p) = place k olds m in
+        let j : i < n = omega (arith, length-take-le n order fits) in
+        subst (λ c. isFree (cellAt (unpacked s) c) ≡ false) (sym (getD-take n order i 0 j) ∙ p) (o .in-use i j)
+
+    pub prepared-found : {m : List ℕ} {y : List ℕ × List ℕ} {go : ℕ} {h : Word} → steps.Sees reading Always (own 3) s h
+        → Follows lent Always 0 (put 3 (word (withLink h (f .next)))) (s, m) (told go) y (told go) tt → Prepares order marks n (s, m) go y go
+    unfolding copyInto
+    prepared-found v p = record {
+      on = λ c j z e d.
+          most (n + j) (omega arith)
+          (copy-into new olds (f .next) c (let k = a .some in omega (arith, length-take-le n order fits)) table run each in-use
+          (looks _ v (then p (then d give))));
+      count = omega (arith, p .kept .count);
+    }
+
+-- the cells are filled, and the table tells the name
+pub copied-whole : (c n : ℕ) (order marks : List ℕ) {s l : List ℕ} {y z : List ℕ × List ℕ} {a : Option Refusal} {b r v : ℕ} (k : ℕ) → n ≤ k
+    → Follows reading Always 0 (walkBack c) s a s (told b) (back n order) → Prepares order marks n (s, l) b y r
+    → Follows lent Always n (copyAll (newOf marks) (take n order) (newsOf marks order n)) y (told r) z (told r) tt → v ≡ newOf marks c
+    → Follows lent Always (2 * k) (copy c) (s, l) a z (told r) v
+unfolding copy copyOf
+copied-whole c n order marks {s} {l} {z = z} {a = a} {r = r} k h w t d e =
+    subst (λ v. Follows lent Always (2 * k) (copy c) (s, l) a z (told r) v) (sym e)
+    (most (2 * k) (omega arith) (reads _ w (alike (ap (copyOf c) (sym (reverse-reverse (take n order)))) (t .on c n z (told r) d))))

@@ -3,7 +3,7 @@ ghost use Prim.Native.Nat.{_<_};
 use crate::input::byte;
 use paper::LoadAnswer;
 use paper::limits;
-use sound::Regions;
+use regions::Regions;
 
 // The cells of a walk, and zeros.
 type Cells = [u16; limits::LARGEST_N];

@@ -3,7 +3,7 @@ use crate::answers;
 use crate::input;
 use paper::RunAnswer;
 use paper::Symbol;
-use sound::Regions;
+use regions::Regions;
 
 // 'L': a load.
 fn load(cells: &mut [u64], deck: &[u8]) {

@@ -1,6 +1,6 @@
 // Numbers, region tables and cells from bytes; numbers are big-endian.
 ghost use Prim.Native.Nat.{_<_};
-use sound::Regions;
+use regions::Regions;
 
 // The next k bytes of the input, at the start of the buffer: whether there were as many.
 pub fn take(bytes: &mut [u8], k: usize) -> bool {

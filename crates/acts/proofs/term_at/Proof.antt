@@ -1,12 +1,23 @@
-use Rattle.undo.proofs.Auto.{lines}
 use Rattle.paper.specs.Act.{termAt, asTerm}
+use Rattle.acts.proofs.Used.{touching}
 use borrow.Author.Needs.{needs}
 use Rattle.acts.proofs.term_at.Statement.{statement}
 use Rattle.acts.proofs.term_at.Tie as tie
 
-returns : tie.Need-returns
-unfolding termAt asTerm
-returns c = search lines depth 20
-
 pub term-at-spec : {M : Type 1} → statement M
-term-at-spec = tie.close (tie.spec (λ c κs. search needs) (λ c κs. search needs) (λ c κs. search needs) (λ c κs. search needs) returns)
+unfolding termAt asTerm
+term-at-spec =
+    tie.close
+    (tie.spec
+    (λ c. search (touching, c .if1 .taken) depth 20)
+    (λ c κs. search needs)
+    (λ c. search touching depth 20)
+    (λ c κs. search needs)
+    (λ c κs. search needs)
+    (λ c κs. search needs)
+    (λ c. search (touching, c .before .before .before .before .if2 .left) depth 20)
+    (λ c κs. search needs)
+    (λ c κs. search needs)
+    (λ c. search (touching, c .before .before .before .before .before .before .if2 .left) depth 20)
+    (λ c κs. search needs)
+    (λ c. search (touching, c .before .before .before .before .before .before .if2 .left) depth 20))

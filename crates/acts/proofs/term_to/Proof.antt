@@ -1,12 +1,12 @@
+use Rattle.paper.specs.Act.{target, termTo, termAt}
 use Rattle.undo.proofs.Auto.{lines}
-use Rattle.paper.specs.Act.{termTo, asTerm}
 use borrow.Author.Needs.{needs}
 use Rattle.acts.proofs.term_to.Statement.{statement}
 use Rattle.acts.proofs.term_to.Tie as tie
 
 returns : tie.Need-returns
-unfolding termTo asTerm
+unfolding target termTo termAt
 returns c = search lines depth 20
 
 pub term-to-spec : {M : Type 1} → statement M
-term-to-spec = tie.close (tie.spec (λ c κs. search needs) (λ c κs. search needs) (λ c κs. search needs) (λ c κs. search needs) returns)
+term-to-spec = tie.close (tie.spec (λ c κs. search needs) returns)

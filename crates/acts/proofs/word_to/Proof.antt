@@ -1,12 +1,12 @@
+use Rattle.paper.specs.Act.{target, wordTo, wordAt}
 use Rattle.undo.proofs.Auto.{lines}
-use Rattle.paper.specs.Act.{wordTo, asWord}
 use borrow.Author.Needs.{needs}
 use Rattle.acts.proofs.word_to.Statement.{statement}
 use Rattle.acts.proofs.word_to.Tie as tie
 
 returns : tie.Need-returns
-unfolding wordTo asWord
+unfolding target wordTo wordAt
 returns c = search lines depth 20
 
 pub word-to-spec : {M : Type 1} → statement M
-word-to-spec = tie.close (tie.spec (λ c κs. search needs) (λ c κs. search needs) (λ c κs. search needs) (λ c κs. search needs) returns)
+word-to-spec = tie.close (tie.spec (λ c κs. search needs) returns)

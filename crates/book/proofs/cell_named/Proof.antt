@@ -1,4 +1,5 @@
-use Rattle.book.proofs.DidLaws.{did-as, sees-last, give}
+use Rattle.steps.proofs.Sequence.{give, seen}
+use Rattle.book.proofs.Lines.{by-case, part}
 use Rattle.paper.specs.Deck.{cellNamed}
 use mathlib.Core.Path.{sym}
 use borrow.Author.Needs.{needs}
@@ -7,22 +8,22 @@ use Rattle.book.proofs.cell_named.Tie as tie
 
 returns : tie.Need-returns
 unfolding cellNamed
-returns c = λ m. did-as cellNamed (c .before .before .f .given .1) (sees-last _ (sym (c .cell-of .ensures)))
+returns c = λ m. by-case cellNamed (c .before .before .f .given .1) (seen (part _ (sym (c .cell-of .ensures))))
 
 returns-2 : tie.Need-returns-2
 unfolding cellNamed
 returns-2 c =
     let c₁ = c .before .before in
     let c₂ = c₁ .before .before .before in
-    λ m. did-as cellNamed (c₂ .f2 .given .1) ((c₁ .mention .ensures) _ m)
+    λ m. by-case cellNamed (c₂ .f2 .given .1) ((c₁ .mention .ensures) _ m)
 
 returns-3 : tie.Need-returns-3
 unfolding cellNamed
-returns-3 c = λ m. did-as cellNamed (c .enum-told .given .1) give
+returns-3 c = λ m. by-case cellNamed (c .enum-told .given .1) give
 
 returns-4 : tie.Need-returns-4
 unfolding cellNamed
-returns-4 c = λ m. did-as cellNamed (c .enum-told2 .given .1) give
+returns-4 c = λ m. by-case cellNamed (c .enum-told2 .given .1) give
 
 pub cell-named-spec : {M : Type 1} → statement M
 cell-named-spec =

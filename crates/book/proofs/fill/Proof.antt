@@ -1,5 +1,6 @@
 use Rattle.book.proofs.StepLaws.{puts, waits}
-use Rattle.book.proofs.DidLaws.{sees, then}
+use Rattle.steps.proofs.Sequence.{sees, then}
+use Rattle.book.proofs.Lines.{part}
 use Rattle.book.specs.Kept.{waitingNoted}
 use Rattle.paper.specs.Deck.{fill}
 use mathlib.Core.Path.{refl, ap}
@@ -13,7 +14,7 @@ returns c =
     let c₁ = c .before .before .before in
     let c₂ = c₁ .before .before .before .before in
     let c₃ = c₂ .before .before .before in
-    λ a y p rs m. sees _ _ refl
+    λ a y p rs m. sees _ (part _ refl)
     (then ((c₂ .link-up .ensures) a rs _ m)
     (then (puts _ _ (c₁ .put .ensures) p) (waits _ (ap (waitingNoted (c₃ .args .notes)) (c .pick .ensures)))))
 

@@ -1,4 +1,5 @@
-use Rattle.book.proofs.DidLaws.{told-ret, told-sees, told-as, under}
+use Rattle.steps.proofs.Sequence.{any, give, sees}
+use Rattle.book.proofs.Lines.{by-case, told-part}
 use Rattle.paper.specs.Region.{cellOf}
 use Rattle.paper.specs.Deck.{known}
 use mathlib.Core.Path.{ap, sym, _∙_}
@@ -11,21 +12,21 @@ unfolding known
 returns c =
     let c₁ = c .before in
     let c₂ = c₁ .before .before in
-    told-as known (c₂ .f .given .1)
-    (told-sees _ _ (λ t h. ap (λ rs. cellOf rs (c₂ .f .given .0 .0) (c₂ .f .given .0 .1 .0)) h ∙ sym (c₁ .cell-of .ensures))
-    (under (λ t h. tt) (c .refuse-if .ensures)))
+    by-case known (c₂ .f .given .1)
+    (sees _ (told-part _ (λ t h. ap (λ rs. cellOf rs (c₂ .f .given .0 .0) (c₂ .f .given .0 .1 .0)) h ∙ sym (c₁ .cell-of .ensures)))
+    (any (c .refuse-if .ensures)))
 
 returns-2 : tie.Need-returns-2
 unfolding known
-returns-2 c = told-as known (c .enum-told .given .1) told-ret
+returns-2 c = by-case known (c .enum-told .given .1) give
 
 returns-3 : tie.Need-returns-3
 unfolding known
-returns-3 c = told-as known (c .enum-told2 .given .1) told-ret
+returns-3 c = by-case known (c .enum-told2 .given .1) give
 
 returns-4 : tie.Need-returns-4
 unfolding known
-returns-4 c = told-as known (c .enum-told3 .given .1) told-ret
+returns-4 c = by-case known (c .enum-told3 .given .1) give
 
 pub known-spec : {M : Type 1} → statement M
 known-spec =

@@ -1,5 +1,5 @@
 use Rattle.book.proofs.StepLaws.{links, links-not}
-use Rattle.book.proofs.DidLaws.{yes, else, give}
+use Rattle.steps.proofs.Sequence.{else, give, yes}
 use borrow.Author.Tests.{eq-eqb, ne-eqb}
 use borrow.Author.Needs.{needs}
 use Rattle.book.proofs.link_up.Statement.{statement}

@@ -1,4 +1,5 @@
-use Rattle.book.proofs.DidLaws.{sees, yes, else, give, giving}
+use Rattle.steps.proofs.Sequence.{else, give-as, sees, yes}
+use Rattle.book.proofs.Lines.{part}
 use Rattle.paper.specs.Deck.{mention}
 use borrow.Author.Tests.{eq-eqb, ne-eqb}
 use mathlib.Core.Path.{sym, refl, _∙_}
@@ -12,14 +13,14 @@ returns c =
     let c₁ = c .before .before in
     let c₂ = c₁ .before .before in
     let c₃ = c₂ .before in
-    λ rs m. sees _ _ refl (yes _ (eq-eqb _ _ (sym (c₃ .local-cell .ensures) ∙ c₂ .if1 .taken)) ((c₁ .new-local .ensures) rs m))
+    λ rs m. sees _ (part _ refl) (yes _ (eq-eqb _ _ (sym (c₃ .local-cell .ensures) ∙ c₂ .if1 .taken)) ((c₁ .new-local .ensures) rs m))
 
 returns-2 : tie.Need-returns-2
 unfolding mention
 returns-2 c =
     let c₁ = c .before in
-    λ rs m. sees _ _ refl
-    (else _ (ne-eqb _ _ (λ e. (c .if1 .left) (c₁ .local-cell .ensures ∙ e))) (giving (sym (c₁ .local-cell .ensures)) give))
+    λ rs m. sees _ (part _ refl)
+    (else _ (ne-eqb _ _ (λ e. (c .if1 .left) (c₁ .local-cell .ensures ∙ e))) (give-as (sym (c₁ .local-cell .ensures))))
 
 pub mention-spec : {M : Type 1} → statement M
 mention-spec =

@@ -1,5 +1,5 @@
 use Rattle.book.proofs.StepLaws.{notes-local}
-use Rattle.book.proofs.DidLaws.{bind, then, give}
+use Rattle.steps.proofs.Sequence.{bind, give, then}
 use Rattle.paper.specs.Deck.{newLocal}
 use borrow.Author.Needs.{needs}
 use Rattle.book.proofs.new_local.Statement.{statement}

@@ -1,5 +1,6 @@
 use Rattle.book.proofs.StepLaws.{opens-structure}
-use Rattle.book.proofs.DidLaws.{sees, test, then, give}
+use Rattle.steps.proofs.Sequence.{give, sees, then}
+use Rattle.book.proofs.Lines.{part, test-at}
 use Rattle.paper.specs.Deck.{cellFor}
 use mathlib.Core.Path.{refl, sym}
 use borrow.Author.Needs.{needs}
@@ -12,8 +13,8 @@ returns c =
     let c₁ = c .before .before .before in
     let c₂ = c₁ .before .before in
     let c₃ = c₂ .before in
-    λ s. test (c₃ .closes .ensures) refl
-    (sees _ _ (sym (c₂ .cell-of .ensures)) (then (opens-structure _ (c .with-structure .ensures) (c₁ .mark .ensures)) give))
+    λ s. test-at (c₃ .closes .ensures) refl
+    (sees _ (part _ (sym (c₂ .cell-of .ensures))) (then (opens-structure _ (c .with-structure .ensures) (c₁ .mark .ensures)) give))
 
 pub open-structure-spec : {M : Type 1} → statement M
 open-structure-spec =

@@ -1,9 +1,10 @@
 use Rattle.book.proofs.StepLaws.{takes}
-use Rattle.book.proofs.DidLaws.{sees, test, then, give}
+use Rattle.steps.proofs.Sequence.{give, sees, test, then}
+use Rattle.book.proofs.Lines.{part}
 use Rattle.cells.specs.Bridge.{cellIn}
 use Rattle.paper.specs.Deck.{takeCell}
 use Rattle.paper.specs.Cell.{wordIn}
-use mathlib.Core.Path.{ap, sym, _∙_}
+use mathlib.Core.Path.{ap, _∙_}
 use borrow.Author.Needs.{needs}
 use Rattle.book.proofs.take_cell.Statement.{statement}
 use Rattle.book.proofs.take_cell.Tie as tie
@@ -19,8 +20,8 @@ returns c =
     let c₆ = c₅ .before .before in
     let c₇ = c₆ .before in
     let c₈ = c₇ .before in
-    λ rs k m. sees _ _ (ap wordIn (c₈ .peek .ensures) ∙ c₇ .word-in .ensures)
-    (test (c₆ .refuse-if .ensures) tt
+    λ rs k m. sees _ (part _ (ap wordIn (c₈ .peek .ensures) ∙ c₇ .word-in .ensures))
+    (test (c₆ .refuse-if .ensures)
     (then (takes _ _ _ _ (c₂ .put .ensures) (c₁ .put2 .ensures) (c₃ .with-link .ensures) (c₅ .peek2 .ensures) (c₄ .free-link .ensures)) give))
 
 pub take-cell-spec : {M : Type 1} → statement M

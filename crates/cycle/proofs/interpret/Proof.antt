@@ -1,57 +1,72 @@
+use Rattle.structures.proofs.Whole.{clean-as}
+use Rattle.cycle.proofs.InterpretLaws.{not-fetched, interpreted}
+use Rattle.cycle.proofs.OrderLaws.{interprets}
+use mathlib.Core.Path.{sym}
 use native.Mathlib.Omega.{arith}
-use Rattle.paper.specs.Cycle.{advance}
-use Rattle.undo.proofs.Leaves.{undone}
-use Rattle.undo.proofs.Readings.{under-on}
-use Rattle.perform.proofs.StepLaws.{tops, quietly, steps-most, steps-bind}
-use Rattle.cycle.proofs.OrderLaws.{fetch-steps}
-use Rattle.cycle.proofs.StageLaws.{steps-from}
 use borrow.Author.Needs.{needs}
 use Rattle.cycle.proofs.interpret.Statement.{statement}
 use Rattle.cycle.proofs.interpret.Tie as tie
+use Rattle.cycle.proofs.interpret.Reads as reads
+use Rattle.cycle.proofs.interpret.Lts as lts
+use Rattle.cycle.proofs.control.advance.Reads as advance-reads
+use Rattle.cycle.proofs.fetched.fetch.Reads as fetch-reads
+use Rattle.cycle.proofs.operate.Reads as operate-reads
+use Rattle.cycle.proofs.top_of.Reads as top-of-reads
 
-operate-requires : tie.Need-operate-requires
-operate-requires c κs =
-    let c₁ = c .before .before .before .before .before .before .before .before .before .before .before .before in
-    let p = c₁ .pre in (p .0, record { fits = omega (arith, p .1 .fits) }, p .2)
+-- src/lib.rt:205:9
+top-of-requires : tie.Need-top-of-requires
+top-of-requires c κs = search needs
 
-advance-requires : tie.Need-advance-requires
-advance-requires c κs =
-    let c₁ = c .before .before .before .before .before .before in
-    let c₂ = c₁ .before .before .before .before .before .before .before .before .before .before .before .before .before in
-    let d = c₁ .operate in
-    record { fits = omega (arith, d .kept .0, d .kept .1 .0, d .ensures .ran .count, c₂ .pre .1 .fits) }
+-- src/lib.rt:206:9
+fetch-requires : tie.Need-fetch-requires
+fetch-requires c κs = search needs
 
+-- src/lib.rt:208:9
+same-length : tie.Need-same-length
+same-length c = search needs
+
+-- src/lib.rt:208:9
 returns : tie.Need-returns
 returns c =
-    let c₁ = c .before .before .before .before in
-    let c₂ = c₁ .before .before .before .before .before .before .before in
-    let c₃ = c₂ .before .before .before .before .before .before in
-    let c₄ = c₃ .before .before .before in
-    let d = c₂ .operate in
-    let f = c₁ .advance in
-    fetch-steps _ (under-on tops (c₄ .fetch .ensures))
-    (steps-from (c₃ .enum-told .given .1)
-    (steps-most _ (omega arith) (steps-bind (advance _) (f .kept .0) (d .ensures) (f .ensures))))
+    (not-fetched _ _ (c .before .before .before .before .top-of .ensures) _ (c .before .before .fetch .ensures) _ _ _ (c .before .before .before .before .before .before .before .before .pre .within) (omega arith), (c .before .before .before .before .before .before .before .before .pre .clean))
 
+-- src/lib.rt:213:9
+operate-requires : tie.Need-operate-requires
+operate-requires c κs = search needs
+
+-- src/lib.rt:214:5
+advance-requires : tie.Need-advance-requires
+advance-requires c κs =
+    record { fits = omega (arith, (c .before .before .before .before .before .before .before .before .operate .kept .1 .0), (c .before .before .before .before .before .before .before .before .operate .ensures .0 .follows) _ (c .before .before .before .before .before .before .before .before .before .before .before .before .before .before .before .before .before .before .before .before .before .before .pre .names .tells) .kept .count, (c .before .before .before .before .before .before .before .before .before .before .before .before .before .before .before .before .before .before .before .before .before .before .pre .room .fits)) }
+
+-- src/lib.rt:191:1
+same-length-2 : tie.Need-same-length-2
+same-length-2 c = search needs
+
+-- src/lib.rt:191:1
+same-length-3 : tie.Need-same-length-3
+same-length-3 c = search needs
+
+-- src/lib.rt:191:1
+same-length-4 : tie.Need-same-length-4
+same-length-4 c = search needs
+
+-- src/lib.rt:191:1
 returns-2 : tie.Need-returns-2
 returns-2 c =
-    let c₁ = c .before in
-    let c₂ = c₁ .before .before .before in
-    let c₃ = c₂ .before .before .before .before in
-    let p = c₃ .pre in
-    fetch-steps _ (under-on tops (c₂ .fetch .ensures)) (quietly (p .2) (p .0) (undone (c₁ .go .given .1)))
+    (interpreted _ _ (c .before .before .before .before .before .before .before .before .before .before .before .before .before .before .before .before .before .before .before .before .before .before .before .top-of .ensures) _ (c .before .before .before .before .before .before .before .before .before .before .before .before .before .before .before .before .before .before .before .before .before .fetch .ensures) (c .before .before .before .before .before .before .before .before .before .before .before .before .before .before .before .before .before .before .before .if1 .left) (c .before .before .before .before .before .before .before .before .before .before .before .before .before .operate .ensures .0) (c .before .before .before .before .advance .ensures), clean-as (c .before .before .before .before .advance .kept .0) (c .before .before .before .before .before .before .before .before .before .before .before .before .before .operate .ensures .1))
 
 pub interpret-spec : {M : Type 1} → statement M
 interpret-spec =
     tie.close
     (tie.spec
-    (λ c κs. search needs)
-    (λ c. search needs)
+    top-of-requires
+    fetch-requires
+    same-length
+    returns
     operate-requires
     advance-requires
-    (λ c. search needs)
-    (λ c. search needs)
-    (λ c. search needs)
-    returns
-    (λ c. search needs)
+    same-length-2
+    same-length-3
+    same-length-4
     returns-2)

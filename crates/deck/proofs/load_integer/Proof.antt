@@ -1,5 +1,6 @@
-use Rattle.deck.proofs.RecordLaws.{turned}
-use Rattle.book.proofs.DidLaws.{test, bind}
+use Rattle.deck.proofs.RecordLaws.{placed}
+use Rattle.steps.proofs.Sequence.{bind}
+use Rattle.book.proofs.Lines.{test-at}
 use Rattle.paper.specs.Deck.{loadInteger}
 use mathlib.Core.Path.{refl}
 use borrow.Author.Needs.{needs}
@@ -14,8 +15,8 @@ returns c =
     let c₃ = c₂ .before .before .before .before .before .before .before in
     let c₄ = c₃ .before .before .before in
     let c₅ = c₄ .before .before .before .before in
-    turned refl (c₅ .pre)
-    (test (c₄ .name-fits .ensures) (record { regions = refl; opened = refl; locals = refl; names = refl; waiting = refl })
+    placed refl (c₅ .pre)
+    (test-at (c₄ .name-fits .ensures) (record { regions = refl; opened = refl; locals = refl; names = refl; waiting = refl })
     (bind _ (c₃ .cell-for .ensures) ((c₁ .fill .ensures) _ _ (c₂ .of-term .ensures) _ _)))
 
 pub load-integer-spec : {M : Type 1} → statement M

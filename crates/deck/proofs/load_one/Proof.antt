@@ -1,5 +1,5 @@
-use Rattle.deck.proofs.RecordLaws.{turned-to, turned-as}
-use Rattle.deck.proofs.ReadLaws.{stops, unknown, cut-off, turned-whole}
+use Rattle.deck.proofs.RecordLaws.{placed-to, placed-as}
+use Rattle.deck.proofs.ReadLaws.{stops, unknown, cut-off, placed-whole}
 use Rattle.deck.proofs.LoopLaws.{lettered}
 use Rattle.records.specs.Symbols.{Written}
 use Rattle.deck.specs.Load.{oneParsed}
@@ -16,7 +16,7 @@ returns c =
     let c₁ = c .before in
     let c₂ = c₁ .before in
     let c₃ = c₂ .before .before .before .before in
-    turned-to (c .stopped .ensures) (stops _ (unknown _ _ _ _ (sym (c₂ .size-of .ensures) ∙ c₁ .if1 .taken)) (c₃ .pre .0))
+    placed-to (c .stopped .ensures) (stops _ (omega arith) (unknown _ _ _ _ (sym (c₂ .size-of .ensures) ∙ c₁ .if1 .taken)) (c₃ .pre .0))
 
 returns-2 : tie.Need-returns-2
 returns-2 c =
@@ -24,8 +24,8 @@ returns-2 c =
     let c₂ = c₁ .before in
     let c₃ = c₂ .before in
     let c₄ = c₃ .before .before .before .before in
-    turned-to (c .stopped2 .ensures)
-    (stops _ (cut-off _ _ _ _ (λ z. c₂ .if1 .left (c₃ .size-of .ensures ∙ z)) (omega (arith, c₁ .if2 .taken, c₃ .size-of .ensures))) (c₄ .pre .0))
+    placed-to (c .stopped2 .ensures)
+    (stops _ (omega arith) (cut-off _ _ _ _ (λ z. c₂ .if1 .left (c₃ .size-of .ensures ∙ z)) (omega (arith, c₁ .if2 .taken, c₃ .size-of .ensures))) (c₄ .pre .0))
 
 parse-requires : tie.Need-parse-requires
 parse-requires c κs =
@@ -50,8 +50,8 @@ returns-3 c =
     let c₄ = c₃ .before in
     let c₅ = c₄ .before in
     let c₆ = c₅ .before .before .before .before in
-    turned-whole _ _ _ (λ z. c₄ .if1 .left (c₅ .size-of .ensures ∙ z)) (omega (arith, c₃ .if2 .left, c₅ .size-of .ensures))
-    (turned-as (oneParsed (length (c₆ .args .cells .now))) (sym (c₂ .parse .ensures)) (c₁ .load-parsed .ensures))
+    placed-whole _ _ _ (λ z. c₄ .if1 .left (c₅ .size-of .ensures ∙ z)) (omega (arith, c₃ .if2 .left, c₅ .size-of .ensures))
+    (placed-as (oneParsed (length (c₆ .args .cells .now))) (sym (c₂ .parse .ensures)) (c₁ .load-parsed .ensures))
 
 pub load-one-spec : {M : Type 1} → statement M
 load-one-spec =

@@ -1,12 +1,13 @@
-use Rattle.deck.proofs.RecordLaws.{turned-as, turned-to}
+use Rattle.deck.proofs.RecordLaws.{placed-as, placed-to}
 use Rattle.deck.proofs.ReadLaws.{stops, not-written}
 use Rattle.deck.specs.Load.{oneParsed, oneRecord, AllLettered}
-use Rattle.book.proofs.DidLaws.{bind, give}
+use Rattle.steps.proofs.Sequence.{bind, give}
 use Rattle.records.specs.Symbols.{parsedOf}
 use Rattle.paper.specs.Deck.{wellFormed}
 use lib.ListN.{length}
 use mathlib.Core.Option.{none}
 use mathlib.Core.Path.{subst, refl}
+use native.Mathlib.Omega.{arith}
 use borrow.Author.Needs.{needs}
 use Rattle.deck.proofs.load_parsed.Statement.{statement}
 use Rattle.deck.proofs.load_parsed.Tie as tie
@@ -21,8 +22,8 @@ returns : tie.Need-returns
 returns c =
     let c₁ = c .before in
     let c₂ = c₁ .before .before .before .before in
-    turned-as (λ y. oneParsed (length (c₂ .args .cells .now)) (parsedOf y)) (c₁ .enum-told .given .1)
-    (turned-to (c .stopped .ensures) (stops _ (not-written _ none _ refl) (c₂ .pre .0)))
+    placed-as (λ y. oneParsed (length (c₂ .args .cells .now)) (parsedOf y)) (c₁ .enum-told .given .1)
+    (placed-to (c .stopped .ensures) (stops _ (omega arith) (not-written _ none _ refl) (c₂ .pre .0)))
 
 returns-2 : tie.Need-returns-2
 unfolding oneParsed wellFormed
@@ -30,7 +31,7 @@ returns-2 c =
     let c₁ = c .before .before .before .before in
     let c₂ = c₁ .before .before .before .before in
     let c₃ = c₂ .before .before .before .before in
-    turned-as (λ y. oneParsed (length (c₃ .args .cells .now)) (parsedOf y)) (c₂ .x .given .1)
+    placed-as (λ y. oneParsed (length (c₃ .args .cells .now)) (parsedOf y)) (c₂ .x .given .1)
     (record { did = bind (oneRecord _) give (c₁ .load-record .ensures .did); made = (c₁ .load-record .ensures .made) })
 
 pub load-parsed-spec : {M : Type 1} → statement M

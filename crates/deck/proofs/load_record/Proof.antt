@@ -1,6 +1,6 @@
-use Rattle.deck.proofs.RecordLaws.{turned-as}
+use Rattle.deck.proofs.RecordLaws.{placed-as}
 use Rattle.deck.specs.Load.{ordinary, oneRecord, Lettered}
-use Rattle.book.proofs.DidLaws.{then, give}
+use Rattle.steps.proofs.Sequence.{give, then}
 use Rattle.records.specs.Symbols.{nameOf, recordOf}
 use Rattle.paper.specs.Deck.{loadRecord, loadWord}
 use lib.ListN.{length}
@@ -21,7 +21,7 @@ returns c =
     let c₁ = c .before .before .before .before in
     let c₂ = c₁ .before .before .before .before in
     let c₃ = c₂ .before .before .before .before in
-    turned-as (λ y. oneRecord (length (c₃ .args .cells .now)) (recordOf y)) (c₂ .x .given .1) (c₁ .load-region .ensures)
+    placed-as (λ y. oneRecord (length (c₃ .args .cells .now)) (recordOf y)) (c₂ .x .given .1) (c₁ .load-region .ensures)
 
 returns-2 : tie.Need-returns-2
 unfolding ordinary oneRecord loadRecord
@@ -29,7 +29,7 @@ returns-2 c =
     let c₁ = c .before .before .before .before in
     let c₂ = c₁ .before .before .before .before in
     let c₃ = c₂ .before .before .before .before in
-    turned-as (λ y. oneRecord (length (c₃ .args .cells .now)) (recordOf y)) (c₂ .x2 .given .1) (c₁ .load-word .ensures)
+    placed-as (λ y. oneRecord (length (c₃ .args .cells .now)) (recordOf y)) (c₂ .x2 .given .1) (c₁ .load-word .ensures)
 
 returns-3 : tie.Need-returns-3
 unfolding ordinary oneRecord loadRecord
@@ -38,8 +38,8 @@ returns-3 c =
     let c₂ = c₁ .before .before .before in
     let c₃ = c₂ .before .before in
     let c₄ = c₃ .before .before .before .before in
-    turned-as (λ y. oneRecord (length (c₄ .args .cells .now)) (recordOf y)) (c₃ .x3 .given .1)
-    (turned-as (λ q. ordinary (loadWord (nameOf (c₃ .x3 .given .0 .0)) 0 q (c₃ .x3 .given .0 .1 .0) (c₃ .x3 .given .0 .1 .1 .0)))
+    placed-as (λ y. oneRecord (length (c₄ .args .cells .now)) (recordOf y)) (c₃ .x3 .given .1)
+    (placed-as (λ q. ordinary (loadWord (nameOf (c₃ .x3 .given .0 .0)) 0 q (c₃ .x3 .given .0 .1 .0) (c₃ .x3 .given .0 .1 .1 .0)))
     (sym (c₂ .data-tag .ensures)) (c₁ .load-word2 .ensures))
 
 returns-4 : tie.Need-returns-4
@@ -48,7 +48,7 @@ returns-4 c =
     let c₁ = c .before .before .before .before in
     let c₂ = c₁ .before .before .before .before in
     let c₃ = c₂ .before .before .before .before in
-    turned-as (λ y. oneRecord (length (c₃ .args .cells .now)) (recordOf y)) (c₂ .x4 .given .1) (c₁ .load-integer .ensures)
+    placed-as (λ y. oneRecord (length (c₃ .args .cells .now)) (recordOf y)) (c₂ .x4 .given .1) (c₁ .load-integer .ensures)
 
 returns-5 : tie.Need-returns-5
 unfolding ordinary oneRecord loadRecord
@@ -56,7 +56,7 @@ returns-5 c =
     let c₁ = c .before .before in
     let c₂ = c₁ .before .before .before in
     let c₃ = c₂ .before .before .before .before in
-    turned-as (λ y. oneRecord (length (c₃ .args .cells .now)) (recordOf y)) (c₂ .x5 .given .1)
+    placed-as (λ y. oneRecord (length (c₃ .args .cells .now)) (recordOf y)) (c₂ .x5 .given .1)
     (record { did = then ((c₁ .load-start .ensures) _) give; made = (c₃ .pre .0) })
 
 pub load-record-spec : {M : Type 1} → statement M

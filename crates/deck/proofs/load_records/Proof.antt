@@ -12,10 +12,10 @@ use Rattle.deck.proofs.load_records.Statement.{statement}
 use Rattle.deck.proofs.load_records.Tie as tie
 
 abbrev Inv-loop : tie.InvT-loop
-Inv-loop deck cells names regions notes last at r kind symbols₀ n i₀ symbols i = (i ≤ n) × (length symbols ≡ 3) × Written kind r symbols i
+Inv-loop deck cells names regions notes go₀ last at r kind symbols₀ n i₀ go symbols i = (i ≤ n) × (length symbols ≡ 3) × Written kind r symbols i
 
 abbrev μ-loop : tie.MeasureT-loop
-μ-loop deck cells names regions notes last at r kind symbols₀ n i₀ symbols i = n - i
+μ-loop deck cells names regions notes go₀ last at r kind symbols₀ n i₀ go symbols i = n - i
 
 abbrev Inv-deck : tie.InvT-deck
 Inv-deck deck cells₀ names₀ regions₀ notes₀ go₀ last₀ at₀ cells names regions notes go last at =
@@ -81,60 +81,41 @@ load-one-requires c κs =
     let c₄ = c₃ .before .before .before .before .before in
     let c₅ = c₄ .before .before .before .before .before .before .before in (
       c₃ .deck .inv .made,
-      record {
-        few = omega (arith, c₃ .deck .inv .cells, c₄ .begin .kept .0, c₅ .pre .few);
-        marks = c₃ .deck .inv .marks ∙ sym (c₃ .deck .inv .cells);
-      },
+      record { few = omega (arith, c₃ .deck .inv .cells, c₄ .begin .kept .0, c₅ .pre .few); marks = c₃ .deck .inv .marks ∙ sym (c₃ .deck .inv .cells) },
       refl,
       written-all _ _ _ (c₁ .loop .i) (omega (arith, c₂ .symbols-at .ensures)) (c₁ .loop .inv .2),
     )
 
 add-at : tie.Need-add-at Inv-loop μ-loop Inv-deck μ-deck
 add-at c =
-    let c₁ = c .before in
-    let c₂ = c₁ .before .before .before .before .before in
-    let c₃ = c₂ .before .before .before .before .before .before .before .before in
-    let c₄ = c₃ .before in
-    let c₅ = c₄ .before .before .before .before .before .before .before .before .before .before .before .before in
-    omega (
-      arith,
-      reads-on (c₄ .deck .inv) (c₃ .deck-test .taken) _ (to-end (c₅ .args .deck .now) (c₄ .deck .at)) _ (c₁ .size-of .ensures)
-          (c₂ .load-one .ensures) _ (c .after .ensures),
-      c₅ .good .0 .0,
-    )
+    let c₁ = c .before .before .before .before .before .before in
+    let c₂ = c₁ .before .before .before .before .before .before .before .before in
+    let c₃ = c₂ .before in
+    let c₄ = c₃ .before .before .before .before .before .before .before .before .before .before .before .before in
+    let part = to-end (c₄ .args .deck .now) (c₃ .deck .at) in
+    let on = reads-on (c₃ .deck .inv) (c₂ .deck-test .taken) _ part (c₁ .load-one .ensures) (omega arith) _ (c .size-of .ensures) in
+    omega (arith, on, c₄ .good .0 .0)
 
 deck-less : tie.Need-deck-less Inv-loop μ-loop Inv-deck μ-deck
 deck-less c =
     let c₁ = c .before .before in
-    let c₂ = c₁ .before in
-    let c₃ = c₂ .before in
+    let c₂ = c₁ .before .before .before .before .before .before in
+    let c₃ = c₂ .before .before .before .before .before .before .before .before in
     let c₄ = c₃ .before in
-    let c₅ = c₄ .before .before .before .before .before in
-    let c₆ = c₅ .before .before .before .before .before .before .before .before in
-    let c₇ = c₆ .before in
-    let c₈ = c₇ .before .before .before .before .before .before .before .before .before .before .before .before in
-    let left = sym (c₂ .halted .ensures) ∙ c₁ .if1 .left in
-    omega (
-      arith,
-      reads-on (c₇ .deck .inv) (c₆ .deck-test .taken) _ (to-end (c₈ .args .deck .now) (c₇ .deck .at)) _ (c₄ .size-of .ensures)
-          (c₅ .load-one .ensures) _ (c₃ .after .ensures),
-      further (c₇ .deck .inv) (c₆ .deck-test .taken) _ (to-end (c₈ .args .deck .now) (c₇ .deck .at)) _ (c₄ .size-of .ensures)
-          (c₅ .load-one .ensures) _ (c₃ .after .ensures) left,
-    )
+    let c₅ = c₄ .before .before .before .before .before .before .before .before .before .before .before .before in
+    let part = to-end (c₅ .args .deck .now) (c₄ .deck .at) in
+    let on = reads-on (c₄ .deck .inv) (c₃ .deck-test .taken) _ part (c₂ .load-one .ensures) (omega arith) _ (c₁ .size-of .ensures) in
+    omega (arith, on, further (c₄ .deck .inv) (c₃ .deck-test .taken) _ part (c₂ .load-one .ensures) (omega arith) _ (c₁ .size-of .ensures))
 
 deck-again : tie.Need-deck-again Inv-loop μ-loop Inv-deck μ-deck
 deck-again c =
     let c₁ = c .before .before in
-    let c₂ = c₁ .before in
-    let c₃ = c₂ .before in
+    let c₂ = c₁ .before .before .before .before .before .before in
+    let c₃ = c₂ .before .before .before .before .before .before .before .before in
     let c₄ = c₃ .before in
-    let c₅ = c₄ .before .before .before .before .before in
-    let c₆ = c₅ .before .before .before .before .before .before .before .before in
-    let c₇ = c₆ .before in
-    let c₈ = c₇ .before .before .before .before .before .before .before .before .before .before .before .before in
-    goes-round (c₇ .deck .inv) (c₆ .deck-test .taken) _ (to-end (c₈ .args .deck .now) (c₇ .deck .at)) _ (c₄ .size-of .ensures)
-    (c₅ .load-one .ensures) _ (c₃ .after .ensures) (sym (c₂ .halted .ensures) ∙ c₁ .if1 .left) (c₅ .load-one .kept .0)
-    (c₅ .load-one .kept .1 .0)
+    let c₅ = c₄ .before .before .before .before .before .before .before .before .before .before .before .before in
+    goes-round (c₄ .deck .inv) (c₃ .deck-test .taken) _ (to-end (c₅ .args .deck .now) (c₄ .deck .at)) (c₂ .load-one .ensures) (omega arith) _
+    (c₁ .size-of .ensures) (c₂ .load-one .kept .0) (c₂ .load-one .kept .1 .0)
 
 -- the three ways out of the loop
 leaves : (c : tie.Left-deck Inv-loop μ-loop Inv-deck μ-deck)
@@ -142,40 +123,36 @@ leaves : (c : tie.Left-deck Inv-loop μ-loop Inv-deck μ-deck)
     let d = c .before in
     let b = d .before .before .before .before .before in
     let a = b .before .before .before .before .before .before .before in
-    Leaves (a .args .deck .now) (length (b .begin .last .0)) (x .cells) (x .names) (d .deck .regions) (x .go) (d .deck .last) (x .at)
+    Leaves (a .args .deck .now) (length (b .begin .last .0)) (x .cells) (x .names) (d .deck .regions) (x .go) (d .deck .last) (d .deck .at)
 leaves c =
     let d = c .before in
     let a = d .before .before .before .before .before .before .before .before .before .before .before .before in
     let v = d .deck .inv in
     let part = to-end (a .args .deck .now) (d .deck .at) in
-    ⊎-elim (λ w. leaves-as (w .1) (w .2) (w .3) (w .4) (leaves-end v (w .0 .left)))
+    ⊎-elim (λ w. leaves-as (w .1) (w .2) (w .3) (leaves-end v (w .0 .left)))
     (⊎-elim
-    (λ w. leaves-as (w .9) (w .10) (w .11) (w .12)
+    (λ w. leaves-as (w .9) (w .10) (w .11)
     (leaves-symbol v (w .0 .taken) _ part (w .4 .i) _ (omega (arith, w .5 .taken, w .3 .ensures)) (w .6 .ensures) (w .8 .given .1)))
-    (λ w. leaves-as (w .17) (w .18) (w .19) (w .20)
-    (leaves-refused v (w .0 .taken) _ part _ (w .13 .ensures) (w .8 .ensures) _ (w .14 .ensures) (sym (w .15 .ensures) ∙ w .16 .taken)
-    (w .8 .kept .0) (w .8 .kept .1 .0)))) (c .deck-test .came)
+    (λ w. leaves-as (w .14) (w .15) (w .16)
+    (leaves-refused v (w .0 .taken) _ part (w .8 .ensures) (w .13 .taken) (w .8 .kept .0) (w .8 .kept .1 .0)))) (c .deck-test .came)
 
 same-length : tie.Need-same-length Inv-loop μ-loop Inv-deck μ-deck
 same-length c =
-    let c₁ = c .before in
-    let c₂ = c₁ .before .before .before .before .before .before in
-    leaves c₁ .cells ∙ c₂ .begin .kept .0
+    let c₁ = c .before .before .before .before .before .before .before in
+    leaves (c .before) .cells ∙ c₁ .begin .kept .0
 
 same-length-2 : tie.Need-same-length-2 Inv-loop μ-loop Inv-deck μ-deck
 same-length-2 c =
-    let c₁ = c .before in
-    let c₂ = c₁ .before .before .before .before .before .before in
-    let c₃ = c₂ .before .before .before .before .before .before .before in
-    leaves c₁ .marks ∙ c₂ .begin .kept .0 ∙ sym (c₃ .pre .marks)
+    let c₁ = c .before .before .before .before .before .before .before in
+    let c₂ = c₁ .before .before .before .before .before .before .before in
+    leaves (c .before) .marks ∙ c₁ .begin .kept .0 ∙ sym (c₂ .pre .marks)
 
 returns : tie.Need-returns Inv-loop μ-loop Inv-deck μ-deck
 returns c =
-    let c₁ = c .before in
-    let c₂ = c₁ .before in
-    let c₃ = c₂ .before .before .before .before .before in
-    let c₄ = c₃ .before .before .before .before .before .before .before in
-    ends (c₄ .args .deck .now) (c₄ .args .cells .now) _ (c₃ .begin .kept .0) (leaves c₁) (c .if-complete .ensures) (c₂ .deck .inv .made .made)
+    let c₁ = c .before .before in
+    let c₂ = c₁ .before .before .before .before .before in
+    let c₃ = c₂ .before .before .before .before .before .before .before in
+    ends (c₃ .args .deck .now) (c₃ .args .cells .now) _ (c₂ .begin .kept .0) (leaves (c .before)) (c .refuse-if .ensures) (c₁ .deck .inv .made .made)
 
 pub load-records-spec : {M : Type 1} → statement M
 load-records-spec =
@@ -204,9 +181,7 @@ load-records-spec =
     loop-again
     load-one-requires
     (λ c κs. search needs)
-    (λ c κs. search needs)
     add-at
-    (λ c κs. search needs)
     deck-less
     deck-again
     (λ c κs. search needs)

@@ -1,9 +1,10 @@
 use Rattle.deck.proofs.TableLaws.{listed, made-more}
-use Rattle.deck.proofs.RecordLaws.{turned, turned-to, lays, none-holds, or-stops}
+use Rattle.deck.proofs.RecordLaws.{placed, placed-to, lays, none-holds, or-stops}
 use Rattle.deck.specs.Load.{Made}
-use Rattle.book.proofs.DidLaws.{test, sees, skipped, judged-yes, judged-no}
-use Rattle.book.specs.Did.{Always}
-use Rattle.sound.specs.Table.{regionsOf}
+use Rattle.steps.proofs.Sequence.{from-is, judged-no, judged-yes, sees, test, to-is, undone}
+use Rattle.book.proofs.Lines.{part}
+use Rattle.book.proofs.Verdict.{told-fine, told-fault}
+use Rattle.regions.specs.Table.{regionsOf}
 use Rattle.paper.specs.Deck.{loadRegion}
 use lib.Dec.{ltb}
 use lib.ListN.{length}
@@ -24,12 +25,14 @@ returns c =
     let c₂ = c₁ .before in
     let c₃ = c₂ .before .before .before in
     let full = ltb (length (c₃ .args .cells .now)) ((c₂ .top .result) + (c₃ .args .n)) in
-    turned-to (c .stopped .ensures)
-    (turned refl (c₃ .pre .0)
-    (sees _ _ (sym (c₁ .letter-taken .ensures))
+    placed-to (c .stopped .ensures)
+    (placed refl (c₃ .pre .0)
+    (from-is (told-fine 0 refl)
+    (to-is (sym (told-fault 5 (omega arith)))
+    (sees _ (part _ (sym (c₁ .letter-taken .ensures)))
     (or-stops _ _ _ (sym (or-assoc (c₁ .letter-taken .result) (c₃ .args .notes .words) full) ∙ c₀ .if1 .taken)
-    (λ e. sees _ _ refl
-    (or-stops _ _ _ e (λ e. sees _ _ (sym (c₂ .top .ensures)) (test (judged-yes {K = Always} _ _ e refl) tt skipped)))))))
+    (λ e. sees _ (part _ refl)
+    (or-stops _ _ _ e (λ e. sees _ (part _ (sym (c₂ .top .ensures))) (test (judged-yes _ _ e refl refl) (undone _ refl))))))))))
 
 -- the table's arrays have 23 places
 sized : (c : tie.After-slice-known4)
@@ -53,15 +56,15 @@ returns-2 c =
     let new = sym (c₄ .letter-taken .ensures) ∙ no .0 in
     let fits = ltb-false (length (c₆ .args .cells .now)) ((c₅ .top .result) + (c₆ .args .n)) (no .2) in
     let more = ap regionsOf (c₂ .with .ensures) ∙ listed (c₆ .args .regions) _ _ (z .0) (z .1) (c₆ .pre .0) (c₆ .pre .2) new in
-    turned refl
+    placed refl
     (subst Made (sym (c₂ .with .ensures))
     (made-more (c₆ .args .regions) _ _ (z .0) (z .1) (c₆ .pre .0) (c₆ .pre .2) new (omega (arith, c₅ .top .ensures, c₆ .pre .1 .few))))
-    (sees _ _ (sym (c₄ .letter-taken .ensures))
-    (test (judged-no {K = Always} _ _ (no .0)) tt
-    (sees _ _ refl
-    (test (judged-no {K = Always} _ _ (no .1)) tt
-    (sees _ _ (sym (c₅ .top .ensures))
-    (test (judged-no {K = Always} _ _ (no .2)) tt (lays _ _ _ more (c₁ .begin .ensures .0) (c₁ .begin .ensures .1))))))))
+    (sees _ (part _ (sym (c₄ .letter-taken .ensures)))
+    (test (judged-no _ _ (no .0))
+    (sees _ (part _ refl)
+    (test (judged-no _ _ (no .1))
+    (sees _ (part _ (sym (c₅ .top .ensures)))
+    (test (judged-no _ _ (no .2)) (lays _ _ _ more (c₁ .begin .ensures .0) (c₁ .begin .ensures .1))))))))
 
 pub load-region-spec : {M : Type 1} → statement M
 load-region-spec =

@@ -1,5 +1,6 @@
 use Rattle.deck.proofs.RecordLaws.{starts}
-use Rattle.book.proofs.DidLaws.{test, sees}
+use Rattle.steps.proofs.Sequence.{sees, test}
+use Rattle.book.proofs.Lines.{part, test-at}
 use Rattle.paper.specs.Deck.{loadStart}
 use mathlib.Core.Path.{refl, sym}
 use borrow.Author.Needs.{needs}
@@ -17,11 +18,11 @@ returns c =
     let c₆ = c₅ .before in
     let c₇ = c₆ .before in
     let c₈ = c₇ .before in
-    λ m. sees _ _ refl
-    (test (c₈ .refuse-if .ensures) tt
-    (test (c₇ .known .ensures) refl
-    (test (c₆ .closes .ensures) refl
-    (sees _ _ (sym (c₅ .cell-of .ensures))
+    λ m. sees _ (part _ refl)
+    (test (c₈ .refuse-if .ensures)
+    (test-at (c₇ .known .ensures) refl
+    (test-at (c₆ .closes .ensures) refl
+    (sees _ (part _ (sym (c₅ .cell-of .ensures)))
     (starts _ _ _ (c₃ .put .ensures) (c₁ .put2 .ensures) (c₄ .of-fields .ensures) (c₂ .of-fields2 .ensures))))))
 
 pub load-start-spec : {M : Type 1} → statement M

@@ -1,5 +1,6 @@
-use Rattle.deck.proofs.RecordLaws.{turned}
-use Rattle.book.proofs.DidLaws.{test, bind, alike}
+use Rattle.deck.proofs.RecordLaws.{placed}
+use Rattle.steps.proofs.Sequence.{alike, bind}
+use Rattle.book.proofs.Lines.{test-at}
 use Rattle.paper.specs.Deck.{loadWord, fill}
 use mathlib.Core.Path.{refl, ap}
 use native.Mathlib.Omega.{arith}
@@ -34,10 +35,10 @@ returns c =
     let c₈ = c₇ .before in
     let c₉ = c₈ .before in
     let c₁₀ = c₉ .before .before .before .before in
-    turned refl (c₁₀ .pre)
-    (test (c₉ .name-fits .ensures) (record { regions = refl; opened = refl; locals = refl; names = refl; waiting = refl })
-    (test (c₈ .known .ensures) refl
-    (test (c₇ .known2 .ensures) refl
+    placed refl (c₁₀ .pre)
+    (test-at (c₉ .name-fits .ensures) (record { regions = refl; opened = refl; locals = refl; names = refl; waiting = refl })
+    (test-at (c₈ .known .ensures) refl
+    (test-at (c₇ .known2 .ensures) refl
     (bind _ (c₆ .cell-for .ensures)
     (bind _ ((c₅ .cell-named .ensures) _)
     (bind _ ((c₄ .cell-named2 .ensures) _) (alike (ap (fill _ _) (c₂ .is-blank .ensures)) ((c₁ .fill .ensures) _ _ (c₃ .of-fields .ensures) _ _))))))))

@@ -1,9 +1,31 @@
+use Prim.Native.Nat.{_/_, _%_}
 use mathlib.Core.Path.{ap}
-use Rattle.paper.specs.Process.{atEnd, dropEnd}
-use Rattle.undo.proofs.Lines.{then, any, puts, alike}
+use native.Mathlib.Omega.{arith}
 use borrow.Author.Needs.{needs}
+use Rattle.paper.specs.Process.{atEnd, dropEnd}
+use Rattle.steps.proofs.Sequence.{then, any, alike}
+use Rattle.undo.proofs.Lines.{puts, once}
+use Rattle.undo.proofs.Log.{writes-most}
 use Rattle.lists.proofs.drop_end.Statement.{statement}
 use Rattle.lists.proofs.drop_end.Tie as tie
+
+put-requires : tie.Need-put-requires
+put-requires c κs =
+    let c₁ = c .before .before .before .before .before in
+    (record { fits = omega (arith, writes-most ((c₁ .args .w0) / 65536 % 65536)) }, search needs)
+
+release-requires : tie.Need-release-requires
+release-requires c κs =
+    let c₁ = c .before .before .before .before .before .before in
+    let c₂ = c₁ .before .before .before .before .before .before in
+    record { fits = omega (arith, writes-most ((c₂ .args .w0) / 65536 % 65536), (c₁ .put .ensures .kept .count)) }
+
+at-end-requires : tie.Need-at-end-requires
+at-end-requires c κs =
+    let c₁ = c .before .before .before .before .before .before .before in
+    let c₂ = c₁ .before .before .before .before .before .before .before in
+    let c₃ = c₂ .before .before .before .before .before .before in
+    record { fits = omega (arith, writes-most ((c₃ .args .w0) / 65536 % 65536), (c₂ .put .ensures .kept .count), (c₁ .release .ensures .kept .count)) }
 
 returns : tie.Need-returns
 unfolding dropEnd
@@ -13,8 +35,8 @@ returns c =
     let c₃ = c₂ .before .before .before .before .before .before .before in
     let c₄ = c₃ .before .before .before .before .before .before .before in
     let c₅ = c₄ .before in
-    then (any (puts _ (c₅ .with-link .ensures) (c₄ .put .ensures)))
-    (then (any (c₃ .release .ensures)) (alike (ap atEnd (c₂ .symbol .ensures)) (c₁ .at-end .ensures)))
+    then (any (once _ _ (puts _ (c₅ .with-link .ensures) (c₄ .put .ensures)))) (then (any (c₃ .release .ensures))
+    (alike (ap atEnd (c₂ .symbol .ensures)) (c₁ .at-end .ensures)))
 
 pub drop-end-spec : {M : Type 1} → statement M
 drop-end-spec =
@@ -22,11 +44,11 @@ drop-end-spec =
     (tie.spec
     (λ c. search needs)
     (λ c κs. search needs)
-    (λ c κs. search needs)
+    put-requires
     (λ c. search needs)
+    release-requires
     (λ c κs. search needs)
-    (λ c κs. search needs)
-    (λ c κs. search needs)
+    at-end-requires
     (λ c. search needs)
     (λ c. search needs)
     returns)

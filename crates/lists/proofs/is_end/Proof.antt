@@ -1,5 +1,4 @@
 use Rattle.lists.proofs.Words.{end-is}
-use borrow.Author.Needs.{needs}
 use Rattle.lists.proofs.is_end.Statement.{statement}
 use Rattle.lists.proofs.is_end.Tie as tie
 

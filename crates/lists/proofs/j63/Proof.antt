@@ -1,9 +1,9 @@
 use mathlib.Core.Path.{ap}
-use Rattle.paper.specs.Act.{store}
-use Rattle.paper.specs.Process.{J63}
-use Rattle.undo.proofs.Readings.{any-sees, any-on}
-use Rattle.undo.proofs.Lines.{sees, reads, then, any, alike}
 use borrow.Author.Needs.{needs}
+use Rattle.paper.specs.Process.{J63}
+use Rattle.paper.specs.Act.{store}
+use Rattle.steps.proofs.Sequence.{any, any-sees, then, alike}
+use Rattle.undo.proofs.Lines.{looks, reads}
 use Rattle.lists.proofs.j63.Statement.{statement}
 use Rattle.lists.proofs.j63.Tie as tie
 
@@ -16,8 +16,8 @@ returns c =
     let c₄ = c₃ .before .before .before .before .before .before .before in
     let c₅ = c₄ .before .before .before .before in
     let c₆ = c₅ .before .before in
-    sees _ (any-sees (c₆ .own .ensures)) (reads _ (any-on (c₅ .below .ensures))
-    (then (any (c₄ .preserve .ensures)) (then (any (alike (ap (store _) (c₃ .symbol .ensures)) (c₂ .store .ensures))) (c₁ .pops2 .ensures))))
+    looks _ (any-sees (c₆ .own .ensures)) (reads _ (any (c₅ .below .ensures)) (then (any (c₄ .preserve .ensures))
+    (then (any (alike (ap (store _) (c₃ .symbol .ensures)) (c₂ .store .ensures))) (c₁ .pops2 .ensures))))
 
 pub j63-spec : {M : Type 1} → statement M
 j63-spec =

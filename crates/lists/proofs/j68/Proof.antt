@@ -1,9 +1,9 @@
 use native.Mathlib.Omega.{arith}
 use borrow.Author.Tests.{eq-eqb, ne-eqb}
-use Rattle.paper.specs.Process.{J68}
-use Rattle.undo.proofs.Readings.{any-sees, any-on}
-use Rattle.undo.proofs.Lines.{sees, reads, test, yes, else, most}
 use borrow.Author.Needs.{needs}
+use Rattle.paper.specs.Process.{J68}
+use Rattle.steps.proofs.Sequence.{any, any-sees, test, yes, else, most}
+use Rattle.undo.proofs.Lines.{looks, reads}
 use Rattle.lists.proofs.j68.Statement.{statement}
 use Rattle.lists.proofs.j68.Tie as tie
 
@@ -16,8 +16,8 @@ returns c =
     let c₄ = c₃ .before in
     let c₅ = c₄ .before .before in
     let c₆ = c₅ .before .before in
-    sees _ (any-sees (c₆ .own .ensures)) (reads _ (any-on (c₅ .word-to .ensures)) (test (c₄ .refuse-if .ensures) (test (c₃ .not-own .ensures)
-    (yes _ (eq-eqb _ _ (c₂ .if1 .taken)) (most 7 (omega arith) (c₁ .delete-last .ensures))))))
+    looks _ (any-sees (c₆ .own .ensures)) (reads _ (any (c₅ .word-to .ensures))
+    (test (c₄ .refuse-if .ensures) (test (c₃ .not-own .ensures) (yes _ (eq-eqb _ _ (c₂ .if1 .taken)) (most 3 (omega arith) (c₁ .delete-last .ensures))))))
 
 returns-2 : tie.Need-returns-2
 unfolding J68
@@ -28,8 +28,8 @@ returns-2 c =
     let c₄ = c₃ .before in
     let c₅ = c₄ .before .before in
     let c₆ = c₅ .before .before in
-    sees _ (any-sees (c₆ .own .ensures)) (reads _ (any-on (c₅ .word-to .ensures)) (test (c₄ .refuse-if .ensures) (test (c₃ .not-own .ensures)
-    (else _ (ne-eqb _ _ (c₂ .if1 .left)) (c₁ .delete-next .ensures)))))
+    looks _ (any-sees (c₆ .own .ensures)) (reads _ (any (c₅ .word-to .ensures))
+    (test (c₄ .refuse-if .ensures) (test (c₃ .not-own .ensures) (else _ (ne-eqb _ _ (c₂ .if1 .left)) (c₁ .delete-next .ensures)))))
 
 pub j68-spec : {M : Type 1} → statement M
 j68-spec =

@@ -1,10 +1,10 @@
 use mathlib.Core.Path.{refl, sym, _∙_}
 use native.Mathlib.Omega.{arith}
-use Rattle.paper.specs.Process.{nextCell}
-use Rattle.undo.proofs.Leaves.{reserving}
-use Rattle.undo.proofs.Readings.{any-on, when}
-use Rattle.undo.proofs.Lines.{reads, sees, test, yes, else, most}
 use borrow.Author.Needs.{needs}
+use Rattle.paper.specs.Process.{nextCell}
+use Rattle.steps.proofs.Sequence.{any, test, when, yes, else, most}
+use Rattle.undo.proofs.Lines.{reads, looks}
+use Rattle.undo.proofs.Leaves.{reserving}
 use Rattle.lists.proofs.next_cell.Statement.{statement}
 use Rattle.lists.proofs.next_cell.Tie as tie
 
@@ -18,8 +18,8 @@ returns c =
     let c₅ = c₄ .before in
     let c₆ = c₅ .before in
     let c₇ = c₆ .before in
-    reads _ (any-on (c₇ .word-at .ensures))
-    (sees _ (reserving _ _ _ refl) (test (when _ (c₆ .reserved-end .ensures) (c₅ .refuse-if .ensures)) (test (c₄ .not-own .ensures)
+    reads _ (any (c₇ .word-at .ensures)) (looks _ (reserving _ _ _ refl) (test (when _ (c₆ .reserved-end .ensures) (c₅ .refuse-if .ensures))
+    (test (c₄ .not-own .ensures)
     (yes _ (sym (c₃ .is-end .ensures) ∙ (c₂ .if1 .taken)) (c₁ .drop-end .ensures)))))
 
 returns-2 : tie.Need-returns-2
@@ -32,9 +32,9 @@ returns-2 c =
     let c₅ = c₄ .before in
     let c₆ = c₅ .before in
     let c₇ = c₆ .before in
-    reads _ (any-on (c₇ .word-at .ensures))
-    (sees _ (reserving _ _ _ refl) (test (when _ (c₆ .reserved-end .ensures) (c₅ .refuse-if .ensures)) (test (c₄ .not-own .ensures)
-    (else _ (sym (c₃ .is-end .ensures) ∙ (c₂ .if1 .left)) (most 10 (omega arith) (c₁ .move-on .ensures))))))
+    reads _ (any (c₇ .word-at .ensures)) (looks _ (reserving _ _ _ refl) (test (when _ (c₆ .reserved-end .ensures) (c₅ .refuse-if .ensures))
+    (test (c₄ .not-own .ensures)
+    (else _ (sym (c₃ .is-end .ensures) ∙ (c₂ .if1 .left)) (most 4 (omega arith) (c₁ .move-on .ensures))))))
 
 pub next-cell-spec : {M : Type 1} → statement M
 next-cell-spec =

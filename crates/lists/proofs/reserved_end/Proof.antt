@@ -4,10 +4,7 @@ use Rattle.lists.proofs.reserved_end.Statement.{statement}
 use Rattle.lists.proofs.reserved_end.Tie as tie
 
 returns : tie.Need-returns
-returns c =
-    let c₁ = c .before in
-    let c₂ = c₁ .before in
-    simp (sym (c₂ .is-end .ensures) ∙ (c₁ .if1 .taken)) (c .reserved .ensures)
+returns c = simp (sym (c .before .before .is-end .ensures) ∙ (c .before .if1 .taken)) (c .reserved .ensures)
 
 returns-2 : tie.Need-returns-2
 returns-2 c = (c .if1 .left) ∙ simp (sym (c .before .is-end .ensures) ∙ (c .if1 .left))

@@ -1,14 +1,14 @@
--- Invariant: the run that was begun is the one that is left, with the lines so far in the first bytes.
 use Prim.Native.Nat.{_+_, _-_, _<_, _≤_}
 use mathlib.Core.Path.{_≡_, refl, ap, subst, _∙_, sym}
-use mathlib.Core.List.{[]}
+use mathlib.Core.List.{List, []}
 use native.Mathlib.Omega.{arith}
 use borrow.Author.Tests.{not-true, not-false}
 use lib.ListN.{length, drop}
+use Rattle.paper.specs.Cell.{Region}
 use Rattle.paper.specs.Run.{isFinished, runFrom}
 use Rattle.cells.specs.Pack.{AllFormed}
 use Rattle.cells.specs.Bridge.{stateOf}
-use Rattle.lines.specs.Ran.{tableOf}
+use Rattle.regions.specs.Lent.{Tells}
 use Rattle.cycle.specs.Turns.{stateAt, Ready, Came}
 use Rattle.machine.specs.declared.Ran.{Ran}
 use Rattle.machine.specs.Numbers.{numbers}
@@ -18,120 +18,155 @@ use Rattle.machine.proofs.cycles.Statement.{statement}
 use Rattle.machine.proofs.cycles.Tie as tie
 
 abbrev Inv-loop : tie.InvT-loop
-Inv-loop cells₀ log₀ order₀ marks₀ line₀ letters counts n top budget out₀ done₀ at₀ cells log order marks line out done at =
-    let rs = tableOf letters counts n in
-    Ready cells log order marks line × AllFormed cells × (done ≤ budget) × (at ≤ length out) × (length out ≡ length out₀)
+Inv-loop cells₀ log₀ order₀ marks₀ table budget out₀ done₀ at₀ cells log order marks out done at =
+    Ready cells log order marks × AllFormed cells × (done ≤ budget) × (at ≤ length out) × (length out ≡ length out₀)
     × (length cells ≡ length cells₀) × (length log ≡ length log₀) × (drop at out ≡ drop at out₀)
-    × (runFrom budget 0 (stateOf (record { regions = rs; lines = []; room = length out₀ }) cells₀) ≡ runFrom (budget - done) done (stateAt rs cells out at))
+    × ((rs : List Region) → Tells table rs → runFrom budget 0 (stateOf (record { regions = rs; lines = []; room = length out₀ }) cells₀)
+        ≡ runFrom (budget - done) done (stateAt rs cells out at))
 
 abbrev μ-loop : tie.MeasureT-loop
-μ-loop cells₀ log₀ order₀ marks₀ line₀ letters counts n top budget out₀ done₀ at₀ cells log order marks line out done at = budget - done
+μ-loop cells₀ log₀ order₀ marks₀ table budget out₀ done₀ at₀ cells log order marks out done at = budget - done
 
 loop-holds : tie.Need-loop-holds Inv-loop μ-loop
 loop-holds c =
     let c₁ = c .before .before .before in
-    let p = c₁ .pre in
-    let a = c₁ .args in
-    (p .0, p .1, omega arith, omega arith, refl, refl, refl, refl, begins (tableOf (a .letters .now) (a .counts .now) (a .n)) (a .cells .now) (a .out .now) (a .budget))
+    let a = (c₁ .args .cells) in ((c₁ .pre .0), (c₁ .pre .1), omega arith, omega arith, refl, refl, refl, refl, λ rs w. begins rs ((c₁ .args .cells .now)) ((c₁ .args .out .now)) ((c₁ .args .budget)))
+
+finished-requires : tie.Need-finished-requires Inv-loop μ-loop
+finished-requires c κs = search needs
+
+came-to-requires : tie.Need-came-to-requires Inv-loop μ-loop
+came-to-requires c κs = search needs
+
+same-length : tie.Need-same-length Inv-loop μ-loop
+same-length c = search needs
+
+same-length-2 : tie.Need-same-length-2 Inv-loop μ-loop
+same-length-2 c = search needs
+
+same-length-3 : tie.Need-same-length-3 Inv-loop μ-loop
+same-length-3 c = search needs
 
 returns : tie.Need-returns Inv-loop μ-loop
 unfolding isFinished
 returns c =
-    let c₁ = c .before in
+    let c₁ = c .before .before in
     let c₂ = c₁ .before in
-    let c₃ = c₂ .before in
-    let c₄ = c₃ .before .before in
-    let c₅ = c₄ .before .before .before .before in
-    let l = c₄ .loop in
-    let a = c₅ .args in
-    let rs = tableOf (a .letters .now) (a .counts .now) (a .n) in
-    let t = stateAt rs (l .cells) (l .out) (l .at) in
-    let none : a .budget - l .done ≡ 0 = omega (arith, c₁ .if2 .taken) in
-    ap (λ (r : Ran). numbers r (l .cells) (l .out)) (c .came-to .ensures)
-    ∙ closes rs (a .budget) _ (a .cells .now) (a .out .now) (l .cells) (l .out) _ refl refl (l .inv .1) (l .inv .3) (l .inv .7) (l .inv .8)
-    (ap (λ i. runFrom i (l .done) t) none ∙ run-spent t (l .done) (sym (c₃ .finished .ensures) ∙ not-true _ (c₂ .if1 .taken)))
+    let c₃ = c₂ .before .before in
+    let c₄ = c₃ .before .before .before .before in
+    λ rs w.
+    let t = stateAt rs (c₃ .loop .cells) (c₃ .loop .out) (c₃ .loop .at) in
+    let none : (c₄ .args .budget) - (c₃ .loop .done) ≡ 0 = omega (arith, (c .before .if2 .taken)) in
+    ap (λ (r : Ran). numbers r (c₃ .loop .cells) (c₃ .loop .out)) (c .came-to .ensures)
+    ∙ closes rs (c₄ .args .budget) _ (c₄ .args .cells .now) (c₄ .args .out .now) (c₃ .loop .cells) (c₃ .loop .out) _ refl refl (c₃ .loop .inv .1) (c₃ .loop .inv .3) (c₃ .loop .inv .7) ((c₃ .loop .inv .8) rs w)
+    (ap (λ i. runFrom i (c₃ .loop .done) t) none ∙ run-spent t (c₃ .loop .done) (sym (c₂ .finished .ensures) ∙ not-true _ (c₁ .if1 .taken)))
 
 cycle-requires : tie.Need-cycle-requires Inv-loop μ-loop
 cycle-requires c κs =
-    let c₁ = c .before .before .before .before .before .before .before .before .before .before in
+    let c₁ = c .before .before .before .before .before .before .before .before .before in
     let c₂ = c₁ .before .before .before .before in
-    let l = c₁ .loop in (l .inv .0, l .inv .3, c₂ .pre .2)
+    ((c₁ .loop .inv .0), (c₁ .loop .inv .3), (c₂ .pre .2))
+
+enum-known-c : tie.Need-enum-known-c Inv-loop μ-loop
+enum-known-c c = search needs
 
 add-done : tie.Need-add-done Inv-loop μ-loop
 add-done c =
-    let c₁ = c .before .before .before .before .before .before .before .before .before .before .before .before .before .before .before .before in
+    let c₁ = c .before .before .before .before .before .before .before .before .before .before .before .before .before .before .before in
     let c₂ = c₁ .before .before .before .before in
     let c₃ = c₂ .before .before .before .before in
-    let l = c₂ .loop in omega (arith, l .inv .2, c₁ .if2 .left, c₃ .fits .budget)
+    omega (arith, (c₂ .loop .inv .2), (c₁ .if2 .left), (c₃ .fits .budget))
 
 loop-less : tie.Need-loop-less Inv-loop μ-loop
 loop-less c =
-    let c₁ = c .before .before .before .before .before .before .before .before .before .before .before .before .before .before .before .before in
+    let c₁ = c .before .before .before .before .before .before .before .before .before .before .before .before .before .before .before in
     let c₂ = c₁ .before .before .before .before in
-    let l = c₂ .loop in omega (arith, l .inv .2, c₁ .if2 .left)
+    omega (arith, (c₂ .loop .inv .2), (c₁ .if2 .left))
 
 loop-again : tie.Need-loop-again Inv-loop μ-loop
-unfolding isFinished
+unfolding isFinished Came
 loop-again c =
-    let c₁ = c .before in
-    let c₂ = c₁ .before .before .before .before .before .before .before .before in
-    let c₃ = c₂ .before .before .before .before .before .before .before in
+    let c₁ = c .before .before .before .before .before .before .before .before .before in
+    let c₂ = c₁ .before .before .before .before .before .before in
+    let c₃ = c₂ .before in
     let c₄ = c₃ .before in
-    let c₅ = c₄ .before in
-    let c₆ = c₅ .before .before in
-    let c₇ = c₆ .before .before .before .before in
-    let l = c₆ .loop in
-    let a = c₇ .args in
-    let d = c₂ .cycle in
-    let rs = tableOf (a .letters .now) (a .counts .now) (a .n) in
-    let t = stateAt rs (l .cells) (l .out) (l .at) in
-    let (q, up, within, past) = subst (λ r. Came rs (l .cells) (l .out) (l .at) (d .last .0) (d .last .1 .1 .1 .1 .1 .1 .1 .1 .1 .0) r) (c₁ .c .given .1) (d .ensures .came) in
-    let more : l .done < a .budget = omega (arith, l .inv .2, c₃ .if2 .left) in (
-      d .ensures .ready,
-      d .ensures .formed (l .inv .1),
-      omega (arith, l .inv .2, c₃ .if2 .left),
-      omega (arith, within, d .kept .1 .1 .1 .1 .1 .1 .1 .1 .1 .0),
-      d .kept .1 .1 .1 .1 .1 .1 .1 .1 .1 .0 ∙ l .inv .4,
-      d .kept .0 ∙ l .inv .5,
-      d .kept .1 .0 ∙ l .inv .6,
-      past ∙ past-later (l .at) _ (l .out) (a .out .now) up (l .inv .7),
-      l .inv .8 ∙ run-goes t (l .done) (a .budget) more (sym (c₅ .finished .ensures) ∙ not-true _ (c₄ .if1 .taken)) _ q,
+    let c₅ = c₄ .before .before in
+    let c₆ = c₅ .before .before .before .before in
+    let l = (c₅ .loop .inv) in
+    let d = (c₁ .cycle .kept) in
+    let more : (c₅ .loop .done) < (c₆ .args .budget) = omega (arith, l .2, (c₂ .if2 .left)) in
+    let (q, up, within, past) = subst (λ r. Came ((c₆ .pre .2) .regions) (c₅ .loop .cells) (c₅ .loop .out) (c₅ .loop .at) (c₁ .cycle .last .0) (c₁ .cycle .last .1 .1 .1 .1 .1 .0) r) (c .before .c .given .1) ((c₁ .cycle .ensures) ((c₆ .pre .2) .regions) ((c₆ .pre .2) .tells) .came) in
+    let kept = (c₁ .cycle .ensures) ((c₆ .pre .2) .regions) ((c₆ .pre .2) .tells) in (
+      kept .ready,
+      kept .formed (l .1),
+      omega (arith, l .2, (c₂ .if2 .left)),
+      omega (arith, within, d .1 .1 .1 .1 .1 .0),
+      d .1 .1 .1 .1 .1 .0 ∙ l .4,
+      d .0 ∙ l .5,
+      d .1 .0 ∙ l .6,
+      past ∙ past-later (c₅ .loop .at) _ (c₅ .loop .out) (c₆ .args .out .now) up (l .7),
+      λ rs w.
+      let (goes, up, within, past) = subst (λ r. Came rs (c₅ .loop .cells) (c₅ .loop .out) (c₅ .loop .at) (c₁ .cycle .last .0) (c₁ .cycle .last .1 .1 .1 .1 .1 .0) r) (c .before .c .given .1) ((c₁ .cycle .ensures) rs w .came) in
+      l .8 rs w ∙ run-goes (stateAt rs (c₅ .loop .cells) (c₅ .loop .out) (c₅ .loop .at)) (c₅ .loop .done) (c₆ .args .budget) more (sym (c₄ .finished .ensures) ∙ not-true _ (c₃ .if1 .taken)) _ goes,
     )
 
+enum-known-c-2 : tie.Need-enum-known-c-2 Inv-loop μ-loop
+enum-known-c-2 c = search needs
+
+came-to-requires-2 : tie.Need-came-to-requires-2 Inv-loop μ-loop
+came-to-requires-2 c κs = search needs
+
+same-length-4 : tie.Need-same-length-4 Inv-loop μ-loop
+same-length-4 c = search needs
+
+same-length-5 : tie.Need-same-length-5 Inv-loop μ-loop
+same-length-5 c = search needs
+
+same-length-6 : tie.Need-same-length-6 Inv-loop μ-loop
+same-length-6 c = search needs
+
 returns-2 : tie.Need-returns-2 Inv-loop μ-loop
-unfolding isFinished
+unfolding isFinished Came
 returns-2 c =
     let c₁ = c .before .before in
     let c₂ = c₁ .before .before .before .before .before .before .before .before in
-    let c₃ = c₂ .before .before .before .before .before .before .before in
+    let c₃ = c₂ .before .before .before .before .before .before in
     let c₄ = c₃ .before in
     let c₅ = c₄ .before in
     let c₆ = c₅ .before .before in
     let c₇ = c₆ .before .before .before .before in
-    let l = c₆ .loop in
-    let a = c₇ .args in
-    let d = c₂ .cycle in
-    let rs = tableOf (a .letters .now) (a .counts .now) (a .n) in
-    let t = stateAt rs (l .cells) (l .out) (l .at) in
-    let (q, s, o) = subst (λ r. Came rs (l .cells) (l .out) (l .at) (d .last .0) (d .last .1 .1 .1 .1 .1 .1 .1 .1 .1 .0) r) (c₁ .c2 .given .1) (d .ensures .came) in
-    let more : l .done < a .budget = omega (arith, l .inv .2, c₃ .if2 .left) in
-    ap (λ (r : Ran). numbers r (d .last .0) (d .last .1 .1 .1 .1 .1 .1 .1 .1 .1 .0)) (c .came-to2 .ensures)
-    ∙ closes rs (a .budget) _ (a .cells .now) (a .out .now) (l .cells) (l .out) _ s o (l .inv .1) (l .inv .3) (l .inv .7) (l .inv .8)
-    (run-stops t (l .done) (a .budget) more (sym (c₅ .finished .ensures) ∙ not-true _ (c₄ .if1 .taken)) _ q)
+    λ rs w.
+    let l = (c₆ .loop .inv) in
+    let t = stateAt rs (c₆ .loop .cells) (c₆ .loop .out) (c₆ .loop .at) in
+    let (q, s, o) = subst (λ r. Came rs (c₆ .loop .cells) (c₆ .loop .out) (c₆ .loop .at) (c₂ .cycle .last .0) (c₂ .cycle .last .1 .1 .1 .1 .1 .0) r) (c₁ .c2 .given .1) ((c₂ .cycle .ensures) rs w .came) in
+    let more : (c₆ .loop .done) < (c₇ .args .budget) = omega (arith, l .2, (c₃ .if2 .left)) in
+    ap (λ (r : Ran). numbers r (c₂ .cycle .last .0) (c₂ .cycle .last .1 .1 .1 .1 .1 .0)) (c .came-to2 .ensures)
+    ∙ closes rs (c₇ .args .budget) _ (c₇ .args .cells .now) (c₇ .args .out .now) (c₆ .loop .cells) (c₆ .loop .out) _ s o (l .1) (l .3) (l .7) (l .8 rs w)
+    (run-stops t (c₆ .loop .done) (c₇ .args .budget) more (sym (c₅ .finished .ensures) ∙ not-true _ (c₄ .if1 .taken)) _ q)
+
+came-to-requires-3 : tie.Need-came-to-requires-3 Inv-loop μ-loop
+came-to-requires-3 c κs = search needs
+
+same-length-7 : tie.Need-same-length-7 Inv-loop μ-loop
+same-length-7 c = search needs
+
+same-length-8 : tie.Need-same-length-8 Inv-loop μ-loop
+same-length-8 c = search needs
+
+same-length-9 : tie.Need-same-length-9 Inv-loop μ-loop
+same-length-9 c = search needs
 
 returns-3 : tie.Need-returns-3 Inv-loop μ-loop
 unfolding isFinished
 returns-3 c =
-    let c₁ = c .before in
-    let c₂ = c₁ .before in
-    let c₃ = c₂ .before .before in
-    let c₄ = c₃ .before .before .before .before in
-    let l = c₃ .loop in
-    let a = c₄ .args in
-    let rs = tableOf (a .letters .now) (a .counts .now) (a .n) in
-    ap (λ (r : Ran). numbers r (l .cells) (l .out)) (c .came-to3 .ensures)
-    ∙ closes rs (a .budget) _ (a .cells .now) (a .out .now) (l .cells) (l .out) _ refl refl (l .inv .1) (l .inv .3) (l .inv .7) (l .inv .8)
-    (run-finishes (stateAt rs (l .cells) (l .out) (l .at)) (l .done) _ (sym (c₂ .finished .ensures) ∙ not-false _ (c₁ .if1 .left)))
+    let c₁ = c .before .before in
+    let c₂ = c₁ .before .before in
+    let c₃ = c₂ .before .before .before .before in
+    λ rs w.
+    let l = (c₂ .loop .inv) in
+    ap (λ (r : Ran). numbers r (c₂ .loop .cells) (c₂ .loop .out)) (c .came-to3 .ensures)
+    ∙ closes rs (c₃ .args .budget) _ (c₃ .args .cells .now) (c₃ .args .out .now) (c₂ .loop .cells) (c₂ .loop .out) _ refl refl (l .1) (l .3) (l .7) (l .8 rs w)
+    (run-finishes (stateAt rs (c₂ .loop .cells) (c₂ .loop .out) (c₂ .loop .at)) (c₂ .loop .done) _ (sym (c₁ .finished .ensures) ∙ not-false _ (c .before .if1 .left)))
 
 pub cycles-spec : {M : Type 1} → statement M
 cycles-spec =
@@ -140,25 +175,25 @@ cycles-spec =
     Inv-loop
     μ-loop
     loop-holds
-    (λ c κs. search needs)
-    (λ c κs. search needs)
-    (λ c. search needs)
-    (λ c. search needs)
-    (λ c. search needs)
+    finished-requires
+    came-to-requires
+    same-length
+    same-length-2
+    same-length-3
     returns
     cycle-requires
-    (λ c. search needs)
+    enum-known-c
     add-done
     loop-less
     loop-again
-    (λ c. search needs)
-    (λ c κs. search needs)
-    (λ c. search needs)
-    (λ c. search needs)
-    (λ c. search needs)
+    enum-known-c-2
+    came-to-requires-2
+    same-length-4
+    same-length-5
+    same-length-6
     returns-2
-    (λ c κs. search needs)
-    (λ c. search needs)
-    (λ c. search needs)
-    (λ c. search needs)
+    came-to-requires-3
+    same-length-7
+    same-length-8
+    same-length-9
     returns-3)

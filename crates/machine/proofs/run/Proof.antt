@@ -1,121 +1,112 @@
-use Prim.Native.Nat.{ℕ, _+_, _*_}
-use mathlib.Core.Path.{_≡_, refl, ap, sym, _∙_}
-use mathlib.Core.Bool.{true}
+use Prim.Native.Nat.{ℕ, _+_, _*_, _<_}
+use mathlib.Core.Path.{_≡_, refl, ap, subst, _∙_, sym}
 use native.Mathlib.Omega.{arith}
-use borrow.Author.Tests.{not-true, not-false}
 use lib.ListN.{length, length-replicate}
-use Rattle.paper.specs.Limits.{largestN, longestLine}
-use Rattle.paper.specs.Cell.{sizeFits}
-use Rattle.sound.specs.Store.{storeSound}
+use Rattle.paper.specs.Limits.{largestN}
 use Rattle.sound.proofs.SoundLaws.{passed-formed, passed-end, size-range}
+use Rattle.sound.specs.Asked.{Asks, Passed}
 use Rattle.machine.specs.declared.Ran.{Ran}
 use Rattle.machine.specs.Numbers.{numbers}
-use Rattle.machine.proofs.RunLaws.{run-size, run-over, run-unsound, run-cycles}
+use Rattle.machine.proofs.RunLaws.{run-unfit, run-over, run-cycles}
 use borrow.Author.Needs.{needs}
 use Rattle.machine.proofs.run.Statement.{statement}
 use Rattle.machine.proofs.run.Tie as tie
 
+-- the store passed
+abbrev start : tie.After-enum-told → tie.Start
+start c = c .before .before .before .before .before .before
+
+passed : (c : tie.After-enum-told) → Passed (start c .args .regions) (start c .args .cells .now) (c .enum-told .given .0 .0)
+passed c =
+    let a = start c .args in
+    subst (λ q. Asks (a .regions) (a .cells .now) q) (c .enum-told .given .1) (c .before .before .asks .ensures)
+
+asks-requires : tie.Need-asks-requires
+asks-requires c κs = search needs
+
+enum-known-q : tie.Need-enum-known-q
+enum-known-q c = search needs
+
+came-to-requires : tie.Need-came-to-requires
+came-to-requires c κs = search needs
+
+enum-told : tie.Need-enum-told
+enum-told c = search needs
+
+came-to-requires-2 : tie.Need-came-to-requires-2
+came-to-requires-2 c κs = search needs
+
+same-length : tie.Need-same-length
+same-length c = search needs
+
 returns : tie.Need-returns
 returns c =
-    let c₁ = c .before in
-    let c₂ = c₁ .before in
-    let c₃ = c₂ .before .before .before in
-    let a = c₃ .args in
-    ap (λ (r : Ran). numbers r (a .cells .now) (a .out .now)) (c .came-to .ensures)
-    ∙ run-size (a .regions) (a .budget) (a .cells .now) (a .out .now) (sym (c₂ .size-fits .ensures) ∙ not-true _ (c₁ .if1 .taken))
+    let c₁ = c .before .before in
+    let c₂ = c₁ .before .before .before .before .before .before in
+    ap (λ (r : Ran). numbers r (c₂ .args .cells .now) (c₂ .args .out .now)) (c .came-to2 .ensures)
+    ∙ run-over _ _ _ _ (passed (c₁) .size) (c .before .if1 .taken)
 
-returns-2 : tie.Need-returns-2
-returns-2 c =
-    let c₁ = c .before in
-    let c₂ = c₁ .before in
-    let c₃ = c₂ .before in
-    let c₄ = c₃ .before .before .before in
-    let a = c₄ .args in
-    let e = sym (c₃ .size-fits .ensures) ∙ not-false _ (c₂ .if1 .left) in
-    ap (λ (r : Ran). numbers r (a .cells .now) (a .out .now)) (c .came-to2 .ensures)
-    ∙ run-over (a .regions) (a .budget) (a .cells .now) (a .out .now) e (c₁ .if2 .taken)
+table-requires : tie.Need-table-requires
+table-requires c κs = search needs
 
-returns-3 : tie.Need-returns-3
-returns-3 c =
-    let c₁ = c .before in
-    let c₂ = c₁ .before in
-    let c₃ = c₂ .before .before .before in
-    let c₄ = c₃ .before in
-    let c₅ = c₄ .before .before .before in
-    let a = c₅ .args in
-    let e = sym (c₄ .size-fits .ensures) ∙ not-false _ (c₃ .if1 .left) in
-    ap (λ (r : Ran). numbers r (a .cells .now) (a .out .now)) (c .came-to3 .ensures)
-    ∙ run-unsound (a .regions) (a .budget) (a .cells .now) (a .out .now) e (sym (c₂ .sound .ensures) ∙ not-true _ (c₁ .if3 .taken))
-
--- the store passed
-abbrev Passed : Type 0
-Passed = tie.After-top
-
-abbrev start : Passed → tie.Start
-start c =
-    let c₁ = c .before .before .before .before .before .before .before .before .before in
-    c₁
-
-fits : (c : Passed) → sizeFits (length (start c .args .cells .now)) ≡ true
-fits c =
-    let c₁ = c .before .before .before .before .before in
-    let c₂ = c₁ .before in
-    sym (c₂ .size-fits .ensures) ∙ not-false _ (c₁ .if1 .left)
-
-sound : (c : Passed) → storeSound (start c .args .regions) (start c .args .cells .now) ≡ true
-sound c =
-    let c₁ = c .before in
-    let c₂ = c₁ .before in
-    sym (c₂ .sound .ensures) ∙ not-false _ (c₁ .if3 .left)
-
-cast-top : tie.Need-cast-top
-cast-top c =
-    let a = start c .args in
-    let n = size-range (length (a .cells .now)) (fits c) in
-    record { fits = omega (arith, n .1, passed-end (a .regions) (a .cells .now) (omega (arith, n .0)) (sound c), c .top .ensures) }
+slice-aggregate-cycles : tie.Need-slice-aggregate-cycles
+slice-aggregate-cycles c = search needs
 
 cycles-requires : tie.Need-cycles-requires
 cycles-requires c κs =
-    let c₁ = c .before .before .before .before .before .before .before .before .before .before in
-    let d = c₁ in
-    let a = start d .args in
-    let n = size-range (length (a .cells .now)) (fits d) in (
-      record {
-        room = omega (arith, n .1, length-replicate {A = ℕ} (2 * (6 * largestN + 74) + 1) 0);
-        clean = record { small = n .1; sized = length-replicate {A = ℕ} largestN 0; unmarked = refl };
-        sized = length-replicate {A = ℕ} longestLine 0;
-      },
-      passed-formed (a .regions) (a .cells .now) (sound d),
-      sym (d .top .ensures),
+    let c₁ = c .before .before .before .before .before .before in
+    let c₂ = c₁ .before .before in
+    let c₃ = c₂ .before .before .before .before .before .before in
+    let d = passed (c₂) in
+    let n = size-range (length (c₃ .args .cells .now)) (d .size) in (
+      record { room = omega (arith, n .1, length-replicate {A = ℕ} (2 * (3 * largestN + 41) + 5) 0);
+        clean = record { large = n .0; small = n .1; sized = length-replicate {A = ℕ} largestN 0; unmarked = refl } },
+      passed-formed _ _ (d .sound),
+      record { low = omega (arith, n .0, n .1, (c₁ .table .ensures) .top, passed-end (c₃ .args .regions) (c₃ .args .cells .now) (omega (arith, n .0)) (d .sound)); regions = _; tells = (c₁ .table .ensures) },
     )
 
-returns-4 : tie.Need-returns-4
-returns-4 c =
-    let c₁ = c .before .before .before .before .before in
-    let c₂ = c₁ .before .before .before .before .before .before .before .before .before .before .before in
+same-length-2 : tie.Need-same-length-2
+same-length-2 c = search needs
+
+returns-2 : tie.Need-returns-2
+returns-2 c =
+    let c₁ = c .before .before in
+    let c₂ = c₁ .before .before in
     let c₃ = c₂ .before .before .before .before in
-    let d = c₂ in
-    let a = start d .args in
-    c₁ .cycles .ensures
-    ∙ run-cycles (a .regions) (a .budget) (a .cells .now) (a .out .now) (fits d) (c₃ .if2 .left) (sound d)
+    ap (λ (r : Ran). numbers r (c₃ .args .cells .now) (c₃ .args .out .now)) (c .came-to .ensures)
+    ∙ run-unfit _ _ _ _ _ (subst (λ q. Asks (c₃ .args .regions) (c₃ .args .cells .now) q) (c₁ .q .given .1) (c₂ .asks .ensures))
+
+same-length-3 : tie.Need-same-length-3
+same-length-3 c = search needs
+
+same-length-4 : tie.Need-same-length-4
+same-length-4 c = search needs
+
+returns-3 : tie.Need-returns-3
+returns-3 c =
+    let c₁ = c .before .before .before .before .before in
+    let c₂ = c₁ .before .before .before .before .before .before .before in
+    let c₃ = c₂ .before in
+    let c₄ = c₃ .before in
+    let d = passed (c₄) in
+    (c₁ .cycles .ensures) _ (c₂ .table .ensures) ∙ run-cycles _ _ _ _ (d .size) (c₃ .if1 .left) (d .sound)
 
 pub run-spec : {M : Type 1} → statement M
 run-spec =
     tie.close
     (tie.spec
-    (λ c κs. search needs)
-    (λ c κs. search needs)
+    asks-requires
+    enum-known-q
+    came-to-requires
+    enum-told
+    came-to-requires-2
+    same-length
     returns
-    (λ c κs. search needs)
-    returns-2
-    (λ c κs. search needs)
-    (λ c κs. search needs)
-    (λ c. search needs)
-    returns-3
-    (λ c κs. search needs)
-    cast-top
-    (λ c. search needs)
+    table-requires
+    slice-aggregate-cycles
     cycles-requires
-    (λ c. search needs)
-    (λ c. search needs)
-    returns-4)
+    same-length-2
+    returns-2
+    same-length-3
+    same-length-4
+    returns-3)

@@ -1,6 +1,6 @@
 use mathlib.Core.Path.{sym, ap}
 use native.Mathlib.Omega.{arith}
-use Rattle.undo.proofs.Lines.{any, most, alike}
+use Rattle.steps.proofs.Sequence.{any, most, alike}
 use Rattle.plain.specs.Numbers.{actionOf}
 use borrow.Author.Needs.{needs}
 use Rattle.plain.proofs.act.Statement.{statement}

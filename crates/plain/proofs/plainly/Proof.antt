@@ -1,11 +1,13 @@
-use Prim.Native.Nat.{ℕ, suc}
+use Prim.Native.Nat.{ℕ, _+_, _*_}
 use mathlib.Core.Path.{refl, _∙_, subst}
 use native.Mathlib.Omega.{arith}
 use lib.ListN.{length, length-replicate}
 use Rattle.paper.specs.Limits.{largestN}
+use Rattle.undo.specs.Verdict.{told}
+use Rattle.sound.specs.Asked.{Asks, Passed}
 use Rattle.sound.proofs.SoundLaws.{size-range}
-use Rattle.plain.specs.Numbers.{logLast, Asks, Passed, actionOf}
-use Rattle.plain.proofs.Settled.{plain-unfit, plain-settled, empty}
+use Rattle.plain.specs.Numbers.{actionOf}
+use Rattle.plain.proofs.Settled.{plain-unfit, plain-settled}
 use borrow.Author.Needs.{needs}
 use Rattle.plain.proofs.plainly.Statement.{statement}
 use Rattle.plain.proofs.plainly.Tie as tie
@@ -14,7 +16,11 @@ returns : tie.Need-returns
 returns c =
     let c₁ = c .before .before .before in
     let p = c₁ .before .before .before .args in
-    plain-unfit (actionOf (p .what)) _ _ (subst (λ q. Asks (p .regions) (p .cells .now) q) (c .before .q .given .1) (c₁ .ask .ensures))
+    plain-unfit (actionOf (p .what)) _ _ (subst (λ q. Asks (p .regions) (p .cells .now) q) (c .before .q .given .1) (c₁ .asks .ensures))
+
+-- the places of the log, LOG of the code
+abbrev places : ℕ
+places = 2 * (2 * largestN + 2) + 5
 
 -- the store passed
 abbrev Sound : Type 0
@@ -26,28 +32,32 @@ start c = c .before .before .before .before .before
 passed : (c : Sound) → Passed (start c .args .regions) (start c .args .cells .now) (c .q2 .given .0 .0)
 passed c =
     let p = start c .args in
-    subst (λ q. Asks (p .regions) (p .cells .now) q) (c .q2 .given .1) (c .before .before .ask .ensures)
+    subst (λ q. Asks (p .regions) (p .cells .now) q) (c .q2 .given .1) (c .before .before .asks .ensures)
 
 act-requires : tie.Need-act-requires
 act-requires c κs =
-    let p = passed (c .before .before .before .before .before) in
-    let n = size-range _ (p .size) in (
-      record { small = n .1; sized = length-replicate {A = ℕ} largestN 0; unmarked = refl },
-      record { fits = omega (arith, n .1, empty logLast, length-replicate {A = ℕ} (suc logLast) 0) },
+    let c₁ = c .before .before .before .before .before in
+    let n = size-range _ (passed (c₁ .before .before .before .before) .size) in
+    let b = c₁ .begin in (
+      record { large = n .0; small = n .1; sized = length-replicate {A = ℕ} largestN 0; unmarked = refl },
+      record { fits = omega (arith, n .1, b .ensures .count, b .kept, length-replicate {A = ℕ} places 0) },
     )
 
 settle-requires : tie.Need-settle-requires
 settle-requires c κs =
     let t = c .before .before .before .before .before .act in
     let c₁ = c .before .before .before .before .before .before .before .before .before .before .before in
-    let n = size-range (length (start c₁ .args .cells .now)) (passed c₁ .size) in
-    record { fits = omega (arith, t .ensures .count, t .kept .1 .0, n .1, empty logLast, length-replicate {A = ℕ} (suc logLast) 0) }
+    let c₂ = c₁ .before .before .before .before in
+    let n = size-range (length (start c₂ .args .cells .now)) (passed c₂ .size) in
+    let b = c₁ .begin in
+    record { fits = omega (arith, t .ensures .kept .count, t .kept .1 .0, n .1, b .ensures .count, b .kept, length-replicate {A = ℕ} places 0) }
 
 returns-2 : tie.Need-returns-2
 returns-2 c =
     let c₁ = c .before .before .before .before .before .before .before .before in
-    let p = passed (c₁ .before .before .before .before .before .before) in
-    c .before .before .settle .ensures ∙ plain-settled _ _ _ p _ (empty logLast) (c₁ .act .ensures)
+    let c₂ = c₁ .before .before .before .before .before .before in
+    let p = passed (c₂ .before .before .before .before) in
+    c .before .before .settle .ensures ∙ plain-settled _ _ _ p (c₂ .begin .ensures) (told (c₁ .act .result)) (c₁ .act .ensures)
 
 pub plainly-spec : {M : Type 1} → statement M
 plainly-spec =
@@ -56,6 +66,8 @@ plainly-spec =
     (λ c κs. search needs)
     (λ c. search needs)
     (λ c. search needs)
+    (λ c. search needs)
+    (λ c κs. search needs)
     (λ c. search needs)
     act-requires
     (λ c. search needs)

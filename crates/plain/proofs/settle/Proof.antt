@@ -1,5 +1,7 @@
 use mathlib.Core.Path.{sym, ap, _∙_}
+use native.Mathlib.Omega.{arith}
 use Rattle.paper.specs.declared.RunAnswer.the-variants.{Refused as Stopped}
+use Rattle.undo.proofs.Verdict.{told-done}
 use Rattle.plain.specs.Numbers.{numbers, settledAs}
 use borrow.Author.Needs.{needs}
 use Rattle.plain.proofs.settle.Statement.{statement}
@@ -7,23 +9,21 @@ use Rattle.plain.proofs.settle.Tie as tie
 
 returns : tie.Need-returns
 returns c =
-    let p = c .before .before .before .before .args in
-    ap (λ a. settledAs a (p .log .now) (p .cells .now)) (sym (c .enum-told .given .1))
+    let p = c .before .before .before .args in
+    ap (λ a. settledAs a (p .log .now) (p .cells .now)) (sym (told-done (p .go) (omega arith)))
 
 returns-2 : tie.Need-returns-2
 returns-2 c =
-    let c₁ = c .before .before .before .before .before in
-    let p = c₁ .before .before .before .before .args in
-    ap (numbers (Stopped (c₁ .a .given .0 .0))) (c .before .before .rewind .ensures)
-    ∙ ap (λ a. settledAs a (p .log .now) (p .cells .now)) (sym (c₁ .a .given .1))
+    let p = c .before .before .before .before .before .before .before .before .args in
+    ap (numbers (Stopped (c .refusal .result))) (c .before .before .before .rewind .ensures)
+    ∙ ap (λ a. settledAs a (p .log .now) (p .cells .now)) (sym (c .refusal .ensures))
 
 pub settle-spec : {M : Type 1} → statement M
 settle-spec =
     tie.close
     (tie.spec
-    (λ c. search needs)
-    (λ c. search needs)
-    (λ c κs. search needs)
     returns
+    (λ c κs. search needs)
+    (λ c κs. search needs)
     (λ c. search needs)
     returns-2)

@@ -1,7 +1,7 @@
 use native.Mathlib.Omega.{arith}
 use Rattle.paper.specs.Process.{J71}
-use Rattle.undo.proofs.Readings.{any-on, any-sees}
-use Rattle.undo.proofs.Lines.{then, sees, reads, most}
+use Rattle.steps.proofs.Sequence.{then, any, any-sees, most}
+use Rattle.undo.proofs.Lines.{looks, reads}
 use Rattle.structures.proofs.Whole.{lists-clean}
 use borrow.Author.Needs.{needs}
 use Rattle.structures.proofs.j71.Statement.{statement}
@@ -15,9 +15,9 @@ returns c =
     let c₂ = c₁ .before .before .before .before in
     let c₃ = c₂ .before .before .before .before in
     let w = c₂ .chain .ensures in (
-      sees _ (any-sees (c₃ .own .ensures))
-          (reads _ (any-on (w .says)) (most _ (omega (arith, w .few)) (then (c₁ .erase-back .ensures) (p .ensures)))),
-      lists-clean (c₃ .before .before .before .before .pre .0 .small) (omega (arith, p .kept .0, c₁ .erase-back .kept .0)) w,
+      looks _ (any-sees (c₃ .own .ensures))
+          (reads _ (any (w .says)) (most _ (omega (arith, w .few)) (then (c₁ .erase-back .ensures) (p .ensures)))),
+      lists-clean (c₃ .before .before .before .before .pre .0) (omega (arith, p .kept .0, c₁ .erase-back .kept .0)) w,
     )
 
 pub j71-spec : {M : Type 1} → statement M

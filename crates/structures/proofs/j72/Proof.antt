@@ -1,7 +1,7 @@
-use native.Mathlib.Omega.{arith}
 use Rattle.paper.specs.Process.{J72}
-use Rattle.undo.proofs.Readings.{any-sees}
-use Rattle.undo.proofs.Lines.{then, sees}
+use Rattle.steps.proofs.Sequence.{then, any-sees}
+use Rattle.undo.proofs.Lines.{looks}
+use Rattle.structures.proofs.Whole.{clean-as}
 use borrow.Author.Needs.{needs}
 use Rattle.structures.proofs.j72.Statement.{statement}
 use Rattle.structures.proofs.j72.Tie as tie
@@ -11,10 +11,8 @@ unfolding J72
 returns c =
     let p = c .before .before .before .before .pop in
     let c₁ = c .before .before .before .before .before .before .before .before .before .before .before in
-    let e = c₁ .erase .ensures in (
-      sees _ (any-sees (c₁ .before .before .before .before .before .own .ensures)) (then (e .0) (p .ensures)),
-      record { small = omega (arith, p .kept .0, e .1 .small); sized = e .1 .sized; unmarked = e .1 .unmarked },
-    )
+    let e = c₁ .erase .ensures in
+    (looks _ (any-sees (c₁ .before .before .before .before .before .own .ensures)) (then (e .0) (p .ensures)), clean-as (p .kept .0) (e .1))
 
 pub j72-spec : {M : Type 1} → statement M
 j72-spec =

@@ -1,2 +1,0 @@
--- Where control is after an operation, as the code has it.
-pub mod Moves

@@ -1,0 +1,15 @@
+use Rattle.numbers.proofs.Laws.{value-add, value-sub}
+use native.Mathlib.Omega.{arith}
+use borrow.Author.Needs.{needs}
+use Rattle.numbers.proofs.combined.Statement.{statement}
+use Rattle.numbers.proofs.combined.Tie as tie
+
+returns : tie.Need-returns
+returns c = rw (c .if1 .taken) (value-sub (c .before .args .u) (c .before .args .v) (omega arith))
+
+returns-2 : tie.Need-returns-2
+returns-2 c = rw (c .if1 .left) (value-add (c .before .args .u) (c .before .args .v))
+
+pub combined-spec : {M : Type 1} → statement M
+combined-spec =
+    tie.close (tie.spec (λ c. search needs) (λ c. search needs) returns (λ c. search needs) (λ c. search needs) returns-2)

@@ -1,0 +1,64 @@
+use Rattle.undo.proofs.Lines.{looks, reads, meets}
+use Rattle.steps.proofs.Sequence.{any, any-sees, then, alike}
+use Rattle.paper.specs.Process.{putTerm, combines}
+use Rattle.paper.specs.Act.{gives}
+use Rattle.paper.specs.Cell.{integer}
+use mathlib.Core.Path.{ap}
+use native.Mathlib.Omega.{arith}
+use borrow.Author.Needs.{needs}
+use Rattle.numbers.proofs.combines.Statement.{statement}
+use Rattle.numbers.proofs.combines.Tie as tie
+
+put-term-requires : tie.Need-put-term-requires
+put-term-requires c κs =
+    let c₁ = c .before .before .before .before .before .before .before .before .before .before .before .before .before .before in
+    let c₂ = c₁ .before .before .before .before .before in
+    record { fits = omega (arith, c₂ .pre .fits) }
+
+gives3-requires : tie.Need-gives3-requires
+gives3-requires c κs =
+    let c₁ = c .before .before .before .before .before .before .before in
+    let c₂ = c₁ .before .before .before .before .before .before .before .before .before .before .before .before .before .before in
+    let c₃ = c₂ .before .before .before .before .before .before in
+    record { fits = omega (arith, c₃ .pre .fits, c₁ .put-term .ensures .kept .count) }
+
+returns : tie.Need-returns
+unfolding combines
+returns c =
+    let c₁ = c .before .before .before .before in
+    let c₂ = c₁ .before in
+    let c₃ = c₂ .before .before .before .before .before .before .before in
+    let c₄ = c₃ .before in
+    let c₅ = c₄ .before .before .before in
+    let c₆ = c₅ .before .before .before in
+    let c₇ = c₆ .before .before in
+    let c₈ = c₇ .before .before .before in
+    let c₉ = c₈ .before .before in
+    let c₁₀ = c₉ .before .before in
+    looks _ (any-sees (c₁₀ .own .ensures)) (reads _ (any (c₉ .below .ensures))
+    (reads _ (any (c₈ .below2 .ensures)) (meets (any (c₇ .term-to .ensures)) (reads _ (any (c₆ .integer-at .ensures))
+    (reads _ (any (c₅ .integer-at2 .ensures))
+    (then (any (alike (ap (putTerm _) (ap integer (c₄ .combined .ensures))) (c₃ .put-term .ensures)))
+    (alike (ap (gives 3) (c₂ .symbol .ensures)) (c₁ .gives3 .ensures))))))))
+
+pub combines-spec : {M : Type 1} → statement M
+combines-spec =
+    tie.close
+    (tie.spec
+    (λ c κs. search needs)
+    (λ c κs. search needs)
+    (λ c. search needs)
+    (λ c κs. search needs)
+    (λ c. search needs)
+    (λ c. search needs)
+    (λ c κs. search needs)
+    (λ c κs. search needs)
+    (λ c. search needs)
+    (λ c κs. search needs)
+    (λ c κs. search needs)
+    put-term-requires
+    (λ c κs. search needs)
+    gives3-requires
+    (λ c. search needs)
+    (λ c. search needs)
+    returns)

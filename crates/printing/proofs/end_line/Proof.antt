@@ -1,0 +1,11 @@
+use native.Mathlib.Omega.{arith}
+use Rattle.printing.proofs.TextLaws.{writes-one}
+use borrow.Author.Needs.{needs}
+use Rattle.printing.proofs.end_line.Statement.{statement}
+use Rattle.printing.proofs.end_line.Tie as tie
+
+returns : tie.Need-returns
+returns c = writes-one _ _ _ (omega arith)
+
+pub end-line-spec : {M : Type 1} → statement M
+end-line-spec = tie.close (tie.spec (λ c. search needs) (λ c. search needs) returns)

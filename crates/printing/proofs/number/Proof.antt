@@ -1,0 +1,10 @@
+use Rattle.printing.proofs.TextLaws.{text-number}
+use borrow.Author.Needs.{needs}
+use Rattle.printing.proofs.number.Statement.{statement}
+use Rattle.printing.proofs.number.Tie as tie
+
+returns : tie.Need-returns
+returns c = text-number _ (c .digits .ensures)
+
+pub number-spec : {M : Type 1} → statement M
+number-spec = tie.close (tie.spec (λ c κs. search needs) returns)

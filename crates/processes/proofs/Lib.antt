@@ -1,3 +1,0 @@
--- Laws that the proofs of the processes cite.
-pub mod Each
-pub mod Pops

@@ -1,3 +1,0 @@
-pub mod Listed
-pub mod PerformLaws
-pub mod NextLaws
