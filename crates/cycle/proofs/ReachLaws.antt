@@ -68,7 +68,9 @@ bind-alike {A} {B} m f g s h = go (m s) refl
 
 touches : (c : ℕ) (t : State) → eqb c 0 ≡ false → isFree (cellAt (t .cells) c) ≡ false → touch c t ≡ done (cellAt (t .cells) c) t
 unfolding touch peek ret
-touches c t p q = then-ok (refuseIf (eqb c 0) CellZero) _ t t tt (passes _ _ t p) (bind-ok (peek c) _ t t _ refl (then-ok (refuseIf _ (FreeCell c)) _ t t tt (passes _ _ t q) refl))
+touches c t p q =
+    then-ok (refuseIf (eqb c 0) CellZero) _ t t tt (passes _ _ t p)
+    (bind-ok (peek c) _ t t _ refl (then-ok (refuseIf _ (FreeCell c)) _ t t tt (passes _ _ t q) refl))
 
 -- what follows a line of a block that has been done
 module _ {A B : Type 0} (g : A → Act B) where
@@ -160,7 +162,9 @@ module _ {top : ℕ} {s l : List ℕ} where
       }
     where
       goes : (e : Rest) → Top top e → (left a >> popThen (λ z. execute n z)) (stateOf e s) ≡ (left b >> execute n (symbolOf w)) (stateOf e s₁)
-      goes e k = rest _ a a (own 1) w (stateOf e s) (stateOf e s) (to-sees a o e tt .is) ∙ rest (λ u. execute n (symbolOf w)) a b pop tt (stateOf e s) (stateOf e s₁) (d .is e k .is)
+      goes e k =
+          rest _ a a (own 1) w (stateOf e s) (stateOf e s) (to-sees a o e tt .is)
+          ∙ rest (λ u. execute n (symbolOf w)) a b pop tt (stateOf e s) (stateOf e s₁) (d .is e k .is)
 
   -- no turn is left, or no J1 comes
   pub j1-ends : (n : ℕ) (y : Symbol) {a r : Acted} → (0 < n → isJ1 s a (y .num) ≡ false) → Judged (refuseIf (eqb n 0) (WrongKind (y .num))) a r

@@ -170,7 +170,7 @@ passed true e d p =
     absurd (omega arith)
 
 -- the text that ends at `at` of a line is printed, and H0 popped
-module _ {s l s′ l′ : List ℕ} {a b r : Acted} {line line′ : List ℕ} {at len top : ℕ} (room : ℕ) (sized : length line ≡ longestLine) (ends : at < longestLine) where
+module _ {s l s′ l′ line line′ : List ℕ} {a b r : Acted} {at len top : ℕ} (room : ℕ) (sized : length line ≡ longestLine) (ends : at < longestLine) where
   pub prints-pops : Writes line at (10 ∷ []) line′ len → Judged (refuseIf (ltb room len) NoRoom) a b → Did (Top top) 3 pop s l b s′ l′ r tt
       → (rs : List Region) → RanLine (Known rs room top) 3 (printPop (take at line)) s l a s′ l′ line′ (record { go = r; len = len })
   prints-pops w d f rs =

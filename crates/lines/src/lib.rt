@@ -95,7 +95,11 @@ fn integer_text(line: &mut Line, v: u32) -> usize
 fn rows(n: usize) -> usize
     ensures { λ r. ⌜ r ≡ min n 23 ⌝ }
 {
-    if n < limits::MANY_REGIONS { n } else { limits::MANY_REGIONS }
+    if n < limits::MANY_REGIONS {
+        n
+    } else {
+        limits::MANY_REGIONS
+    }
 }
 
 // A cell by letter and number in the deck regions, or by its number past their end.
@@ -137,13 +141,7 @@ fn cell_text(line: &mut Line, letters: &Letters, counts: &Counts, n: usize, c: u
 }
 
 // "region letter and number if the tag is 0 and the cell reserved, else decimal digits"
-fn symbol_text(
-    line: &mut Line,
-    letters: &Letters,
-    counts: &Counts,
-    n: usize,
-    x: Symbol,
-) -> usize
+fn symbol_text(line: &mut Line, letters: &Letters, counts: &Counts, n: usize, x: Symbol) -> usize
     requires { ⌜ length (now line) ≡ longestLine ⌝ }
     ensures { λ r. ⌜ Text (now (line .entry)) (symbolText (tableOf (now (letters .entry)) (now (counts .entry)) n) x) (now (line .exit)) r ⌝ }
 {

@@ -29,8 +29,8 @@ pub tops : {rs : List Region} {room top : ℕ} (e : Rest) → Known rs room top 
 tops e k = ap (λ (r : List Region). endOfRegions r firstDeck) (k .regions) ∙ k .ends
 
 -- what prints nothing
-pub quietly : {A : Type 0} {rs : List Region} {room top k : ℕ} {M : Act A} {s l s′ l′ order marks line : List ℕ} {a r : Acted} {v : A} → length line ≡ longestLine
-    → Clean s′ order marks → Did (Top top) k M s l a s′ l′ r v → Steps (Known rs room top) k M s l a s′ l′ order marks line r 0 v
+pub quietly : {A : Type 0} {rs : List Region} {room top k : ℕ} {M : Act A} {s l s′ l′ order marks line : List ℕ} {a r : Acted} {v : A}
+    → length line ≡ longestLine → Clean s′ order marks → Did (Top top) k M s l a s′ l′ r v → Steps (Known rs room top) k M s l a s′ l′ order marks line r 0 v
 quietly e c d = record { ran = no-line (under tops d); kept = kept-none e; clean = c }
 
 module _ {A : Type 0} {K : Rest → Type 0} {k : ℕ} {s l s′ l′ order marks line : List ℕ} {a r : Acted} {n : ℕ} {v : A} where

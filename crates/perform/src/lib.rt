@@ -61,7 +61,8 @@ pub fn perform(
     room: usize,
     j: u16,
 ) -> Printed
-    requires { ⌜ Clean (now cells) (now order) (now marks) × Room (now log) (3 * length (now cells) + 70) × (length (now line) ≡ longestLine) × (J j < 2 ^ 16) ⌝ }
+    requires { ⌜ Clean (now cells) (now order) (now marks) × Room (now log) (3 * length (now cells) + 70)
+        × (length (now line) ≡ longestLine) × (J j < 2 ^ 16) ⌝ }
     ensures { λ r. ⌜ Steps (Known (tableOf (now (letters .entry)) (now (counts .entry)) n) room top) (3 * length (now (cells .entry)) + 70) (effect j)
         (now (cells .entry)) (now (log .entry)) a
         (now (cells .exit)) (now (log .exit)) (now (order .exit)) (now (marks .exit)) (now (line .exit)) (r .go) (r .len) tt ⌝ }

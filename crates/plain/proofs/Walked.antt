@@ -84,7 +84,8 @@ module _ (c : ℕ) (r : Regions) (s : List ℕ) where
       unfolding left _>>_ ret afterWalk
       walk-done e few f =
           ap (λ xs. record { answer = Finished; n = w .n; cells = xs }) f
-          ∙ ap (λ n. record { answer = Finished; n = n; cells = padded (take (w .n) order) }) (sym (length-take-le (w .n) order (omega (arith, l .ordered .sized))))
+          ∙ ap (λ n. record { answer = Finished; n = n; cells = padded (take (w .n) order) })
+          (sym (length-take-le (w .n) order (omega (arith, l .ordered .sized))))
           ∙ ap (λ xs. metOf (walked Finished xs)) (sym (reverse-reverse (take (w .n) order)))
           ∙ ap (λ x. metOf (afterWalk x)) (sym (read e)) ∙ walks
 

@@ -10,7 +10,6 @@ ghost use Rattle.cells.specs.Layout.{wordOf};
 ghost use Rattle.cells.specs.Bridge.{unpacked};
 ghost use Rattle.sound.specs.Table.{regionsOf, noRegions, withRegion};
 ghost use Rattle.sound.specs.Store.{numberSound, tallyOf, storeSound};
-
 use paper::limits;
 
 // Limits in the widths of the places they are compared at.
@@ -111,7 +110,10 @@ impl Regions {
             let count = wide(self.counts[i]);
             at += count;
             i += 1;
-            if !(self.letter_new(letter, i) & (1 <= count) & (count <= LARGEST_NUMBER) & (at <= n)) {
+            if !(self.letter_new(letter, i)
+                & (1 <= count)
+                & (count <= LARGEST_NUMBER)
+                & (at <= n)) {
                 return false;
             }
         }

@@ -148,14 +148,7 @@ fn copied(marks: &Marks, x: u64) -> u64
 }
 
 // The first n cells of the order are copied into their new cells.
-fn copy_all(
-    cells: &mut [u64],
-    log: &mut [u64],
-    order: &Order,
-    marks: &Marks,
-    n: usize,
-    a: Acted,
-)
+fn copy_all(cells: &mut [u64], log: &mut [u64], order: &Order, marks: &Marks, n: usize, a: Acted)
     requires { ⌜ Clears (now order) (now marks) n × Room (now log) n ⌝ }
     ensures { λ _. ⌜ Did Always n (copyAll (newOf (now (marks .entry))) (take n (now (order .entry))) (newsOf (now (marks .entry)) (now (order .entry)) n))
         (now (cells .entry)) (now (log .entry)) a (now (cells .exit)) (now (log .exit)) a tt ⌝ }

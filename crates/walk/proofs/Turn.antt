@@ -69,7 +69,8 @@ step-is : (b : Bool) (k d c : ℕ) (t : Trail) → (arrives b d c (t .met) >>= g
 unfolding arrives enter follow _>>=_ _>>_ refuseIf
 step-is true k d c t =
     assoc _ (goes k d c (adds true c t)) (meet c)
-    ∙ ap (λ (h : Cell → Act Trail). meet c >>= h) (λ i x. tested x (goes k d c (adds true c t)) (not (isWord x)) (member c (t .met)) false (WrongKind c) (BadWalk c) (BadWalk c) i)
+    ∙ ap (λ (h : Cell → Act Trail). meet c >>= h)
+    (λ i x. tested x (goes k d c (adds true c t)) (not (isWord x)) (member c (t .met)) false (WrongKind c) (BadWalk c) (BadWalk c) i)
 step-is false k d c t =
     assoc _ (goes k d c (adds false c t)) (meet c)
     ∙ ap (λ (h : Cell → Act Trail). meet c >>= h)
@@ -102,8 +103,8 @@ module _ {s : List ℕ} (d : ℕ) (b : Bool) (c : ℕ) (seen : List ℕ) (k : �
       unfolding onward sublist
       walk-end i q = record {
         is = λ heads.
-        let (h, w) = i .is (heads-after heads) in
-        (h, turn heads (reads-on _ m (reads-on _ w (yes-on _ (eq-eqb (linkIn x) 0 (e ∙ q)) give-on))));
+            let (h, w) = i .is (heads-after heads) in
+            (h, turn heads (reads-on _ m (reads-on _ w (yes-on _ (eq-eqb (linkIn x) 0 (e ∙ q)) give-on))));
       }
 
       pub walk-on : {u v : List ℕ} {r : Acted} → Visits (sublist d (listNamed x) k) s (c ∷ seen) Done u → (l ≡ 0 → ⊥)
@@ -111,10 +112,12 @@ module _ {s : List ℕ} (d : ℕ) (b : Bool) (c : ℕ) (seen : List ℕ) (k : �
       unfolding onward sublist
       walk-on {u} {v} {r} i q f = record {
         is = λ heads.
-        let (h, w) = i .is (heads-after heads) in
-        let (h′, w′) = f .is h in
-        (h′, turn heads (reads-on _ m (reads-on _ w (else-on _ (ne-eqb (linkIn x) 0 (λ z. q (sym e ∙ z)))
-            (subst (λ j. Reads Always (follow k d j (trail u h)) s Done r (trail v h′)) (sym e) w′)))));
+            let (h, w) = i .is (heads-after heads) in
+            let (h′, w′) = f .is h in (
+              h′,
+              turn heads (reads-on _ m (reads-on _ w (else-on _ (ne-eqb (linkIn x) 0 (λ z. q (sym e ∙ z)))
+                  (subst (λ j. Reads Always (follow k d j (trail u h)) s Done r (trail v h′)) (sym e) w′)))),
+            );
       }
 
 -- and of a list that is named
@@ -127,8 +130,8 @@ module _ {s : List ℕ} (d c : ℕ) (seen : List ℕ) (k : ℕ) where
   unfolding sublist
   sublist-in {r} {v} e w = record {
     is = λ heads.
-    let (h, f) = w .is heads in
-    (h, else-on _ (ne-eqb c 0 e) (subst (λ j. Reads Always (enter k j c (trail seen heads)) s Done r (trail v h)) (add-one d) f));
+        let (h, f) = w .is heads in
+        (h, else-on _ (ne-eqb c 0 e) (subst (λ j. Reads Always (enter k j c (trail seen heads)) s Done r (trail v h)) (add-one d) f));
   }
 
   pub sublist-as : {c′ : ℕ} {seen′ : List ℕ} {r : Acted} {v : List ℕ} → c′ ≡ c → seen′ ≡ seen → Visits (sublist d c′ k) s seen′ r v

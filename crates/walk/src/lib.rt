@@ -85,7 +85,11 @@ fn arrive(cells: &[u64], marks: &Marks, linked: bool, depth: usize, c: u16) -> G
     let t = acts::touch(cells, Acted::Done, c);
     let x = t.x;
     let a = t.go;
-    let b = undo::refuse_if(a, acts::reserved(limits::FIRST_DECK, c), Refusal::BadWalk(c));
+    let b = undo::refuse_if(
+        a,
+        acts::reserved(limits::FIRST_DECK, c),
+        Refusal::BadWalk(c),
+    );
     let d = undo::refuse_if(b, not_word(linked, x), Refusal::WrongKind(c));
     let e = undo::refuse_if(d, mark_at(marks, c) != 0, Refusal::BadWalk(c));
     let go = undo::refuse_if(e, too_deep(linked, depth), Refusal::BadWalk(c));
@@ -164,13 +168,7 @@ fn enter_sublist(
 }
 
 // The walk of the structure at c.
-pub fn walk(
-    cells: &[u64],
-    order: &mut Order,
-    marks: &mut Marks,
-    a: Acted,
-    c: u16,
-) -> Walked
+pub fn walk(cells: &[u64], order: &mut Order, marks: &mut Marks, a: Acted, c: u16) -> Walked
     requires { ⌜ Clean (now cells) (now order) (now marks) ⌝ }
     ensures { λ r. ⌜ Lists (walkBack c) (now (cells .entry)) a (now (order .exit)) (now (marks .exit)) r ⌝ }
 {
@@ -183,12 +181,7 @@ pub fn walk(
 }
 
 // Along the LINKs from head; 31 at a repeat.
-fn chain_links(
-    cells: &[u64],
-    order: &mut Order,
-    marks: &mut Marks,
-    head: u16,
-) -> Walked
+fn chain_links(cells: &[u64], order: &mut Order, marks: &mut Marks, head: u16) -> Walked
     requires { ⌜ Holds (now cells) (now order) (now marks) 0 ⌝ }
     ensures { λ r. ⌜ Ends (λ f. Reads Always (chain f head []) (now (cells .entry)) Done)
         (now (cells .entry)) (now (marks .entry)) (now (order .exit)) (now (marks .exit)) r ⌝ }
@@ -214,13 +207,7 @@ fn chain_links(
 }
 
 // J71's chain from c, or a data term alone.
-pub fn chain(
-    cells: &[u64],
-    order: &mut Order,
-    marks: &mut Marks,
-    a: Acted,
-    c: u16,
-) -> Walked
+pub fn chain(cells: &[u64], order: &mut Order, marks: &mut Marks, a: Acted, c: u16) -> Walked
     requires { ⌜ Clean (now cells) (now order) (now marks) ⌝ }
     ensures { λ r. ⌜ Lists (chainBack c) (now (cells .entry)) a (now (order .exit)) (now (marks .exit)) r ⌝ }
 {

@@ -17,7 +17,8 @@ perform-requires c κs =
     let c₂ = c₁ .before .before .before .before .before in
     let p = c₂ .pre in
     let d = c₁ .past-j1 in
-    (clean-on (d .kept .0) (p .0), record { fits = omega (arith, d .kept .0, d .kept .1 .0, d .ensures .count, p .1 .fits) }, p .2, c .before .before .before .before .before .process-number .ensures .1)
+    let is-process = c .before .before .before .before .before .process-number .ensures .1 in
+    (clean-on (d .kept .0) (p .0), record { fits = omega (arith, d .kept .0, d .kept .1 .0, d .ensures .count, p .1 .fits) }, p .2, is-process)
 
 returns : tie.Need-returns
 unfolding atOnce
