@@ -161,7 +161,8 @@ module _ (regions : Regions) (s : List ℕ) (size : sizeFits (length s) ≡ true
 
     passes-after : storeSound regions (packed (after .cells)) ≡ true
     passes-after =
-        in-form regions (packed (after .cells)) (after .lines) (after .room) tabled (packed-formed (after .cells) (sound-fits (tested .frame) after sound-after))
+        in-form regions (packed (after .cells)) (after .lines) (after .room) tabled
+        (packed-formed (after .cells) (sound-fits (tested .frame) after sound-after))
         ∙ ap sound numbered ∙ sound-passes (tested .frame) after sound-after
 
     size-after : length (packed (after .cells)) ≡ length s

@@ -83,8 +83,8 @@ ends rs s out out₀ r f h past =
     λ i. record { answer = r .answer; cycles = r .cycles; len = k i; cells = c i; out = b i }
 
 -- the run that was begun has come to r, and what was lent is as it was then
-pub closes : (rs : List Region) (budget left : ℕ) (s₀ out₀ s out : List ℕ) (r : Ran) {s′ out′ : List ℕ} → s′ ≡ s → out′ ≡ out → AllFormed s → r .len ≤ length out
-    → drop (r .len) out ≡ drop (r .len) out₀
+pub closes : (rs : List Region) (budget left : ℕ) (s₀ out₀ s out : List ℕ) (r : Ran) {s′ out′ : List ℕ} → s′ ≡ s → out′ ≡ out → AllFormed s
+    → r .len ≤ length out → drop (r .len) out ≡ drop (r .len) out₀
     → runFrom budget 0 (stateOf (record { regions = rs; lines = []; room = length out₀ }) s₀) ≡ runFrom left (r .cycles) (stateAt rs s out (r .len))
     → runFrom left (r .cycles) (stateAt rs s out (r .len)) ≡ outcome (r .answer) (r .cycles) (stateAt rs s out (r .len))
     → numbers r s′ out′ ≡ cyclesOn rs budget s₀ out₀
