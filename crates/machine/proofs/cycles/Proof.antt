@@ -22,7 +22,7 @@ Inv-loop cells₀ log₀ order₀ marks₀ table budget out₀ done₀ at₀ cel
     Ready cells log order marks × AllFormed cells × (done ≤ budget) × (at ≤ length out) × (length out ≡ length out₀)
     × (length cells ≡ length cells₀) × (length log ≡ length log₀) × (drop at out ≡ drop at out₀)
     × ((rs : List Region) → Tells table rs → runFrom budget 0 (stateOf (record { regions = rs; lines = []; room = length out₀ }) cells₀)
-        ≡ runFrom (budget - done) done (stateAt rs cells out at))
+    ≡ runFrom (budget - done) done (stateAt rs cells out at))
 
 abbrev μ-loop : tie.MeasureT-loop
 μ-loop cells₀ log₀ order₀ marks₀ table budget out₀ done₀ at₀ cells log order marks out done at = budget - done
@@ -106,8 +106,8 @@ loop-again c =
       d .1 .0 ∙ l .6,
       past ∙ past-later (c₅ .loop .at) _ (c₅ .loop .out) (c₆ .args .out .now) up (l .7),
       λ rs w.
-      let (goes, up, within, past) = subst (λ r. Came rs (c₅ .loop .cells) (c₅ .loop .out) (c₅ .loop .at) (c₁ .cycle .last .0) (c₁ .cycle .last .1 .1 .1 .1 .1 .0) r) (c .before .c .given .1) ((c₁ .cycle .ensures) rs w .came) in
-      l .8 rs w ∙ run-goes (stateAt rs (c₅ .loop .cells) (c₅ .loop .out) (c₅ .loop .at)) (c₅ .loop .done) (c₆ .args .budget) more (sym (c₄ .finished .ensures) ∙ not-true _ (c₃ .if1 .taken)) _ goes,
+          let (goes, up, within, past) = subst (λ r. Came rs (c₅ .loop .cells) (c₅ .loop .out) (c₅ .loop .at) (c₁ .cycle .last .0) (c₁ .cycle .last .1 .1 .1 .1 .1 .0) r) (c .before .c .given .1) ((c₁ .cycle .ensures) rs w .came) in
+          l .8 rs w ∙ run-goes (stateAt rs (c₅ .loop .cells) (c₅ .loop .out) (c₅ .loop .at)) (c₅ .loop .done) (c₆ .args .budget) more (sym (c₄ .finished .ensures) ∙ not-true _ (c₃ .if1 .taken)) _ goes,
     )
 
 enum-known-c-2 : tie.Need-enum-known-c-2 Inv-loop μ-loop

@@ -59,8 +59,10 @@ cycles-requires c κs =
     let c₃ = c₂ .before .before .before .before .before .before in
     let d = passed (c₂) in
     let n = size-range (length (c₃ .args .cells .now)) (d .size) in (
-      record { room = omega (arith, n .1, length-replicate {A = ℕ} (2 * (3 * largestN + 41) + 5) 0);
-        clean = record { large = n .0; small = n .1; sized = length-replicate {A = ℕ} largestN 0; unmarked = refl } },
+      record {
+        room = omega (arith, n .1, length-replicate {A = ℕ} (2 * (3 * largestN + 41) + 5) 0);
+        clean = record { large = n .0; small = n .1; sized = length-replicate {A = ℕ} largestN 0; unmarked = refl };
+      },
       passed-formed _ _ (d .sound),
       record { low = omega (arith, n .0, n .1, (c₁ .table .ensures) .top, passed-end (c₃ .args .regions) (c₃ .args .cells .now) (omega (arith, n .0)) (d .sound)); regions = _; tells = (c₁ .table .ensures) },
     )
