@@ -58,7 +58,8 @@ unfolding cellIn
 touched s c y e = when-done (r-touch c) (stateOf somewhere s) (stateOf somewhere s) y refl e .1 .0
 
 module _ (t : List ℕ) {x : Symbol} {s l s₁ l₁ : List ℕ} {g : GotSymbol} {top : ℕ} (ends : top ≡ getD t 0 0) (p : Past top x s l s₁ l₁ g) {y : Cell} (a : ℕ)
-    (m : Follows reading Always 0 (touch (g .x .num)) s₁ (told (g .go)) s₁ (told a) y) (go : ℕ) (own : Judged {S = State} steps.Always (notOwn (g .x .num)) (told a) (told go))
+    (m : Follows reading Always 0 (touch (g .x .num)) s₁ (told (g .go)) s₁ (told a) y) (go : ℕ)
+    (own : Judged {S = State} steps.Always (notOwn (g .x .num)) (told a) (told go))
   where
     -- what comes after the two tests
     abbrev rest : Act Control
@@ -79,7 +80,8 @@ module _ (t : List ℕ) {x : Symbol} {s l s₁ l₁ : List ℕ} {g : GotSymbol} 
     descended d at k within h z n {r = r} f =
         part-quiet t d at r within ends (most k (omega arith) (tested (from-is (ap told z) (else _ n (any f)))))
 
-    pub performed : (n k : ℕ) {j : ℕ} {d : List ℕ} {at : ℕ} {z : List ℕ × List ℕ} {d′ : List ℕ} {r : Printed} → length s + 1 + j ≤ k → go ≡ 0 → isProcess y ≡ true
+    pub performed : (n k : ℕ) {j : ℕ} {d : List ℕ} {at : ℕ} {z : List ℕ × List ℕ} {d′ : List ℕ} {r : Printed} → length s + 1 + j ≤ k → go ≡ 0
+        → isProcess y ≡ true
         → n ≡ g .x .num - J 0 → Part t j (perform n) (s₁, l₁) d at z d′ r (andThen goesOn) → Part t k (executes x) (s, l) d at z d′ r goesOn
     unfolding execute performs finish
     performed n k {j} {d} {at} {z} {d′} {r} h e b q f =
@@ -90,13 +92,19 @@ module _ (t : List ℕ) {x : Symbol} {s l s₁ l₁ : List ℕ} {g : GotSymbol} 
     -- nothing was refused, so the process is not J1
     nothing : go ≡ 0 → (told a ≡ none) × (told (g .go) ≡ none)
     nothing e =
-        let u = went (notOwn (g .x .num)) (tt {0}) nowhere nowhere (told a) (own .is nowhere tt .is ∙ ap (λ r. (left r >> ret (tt {0})) nowhere) (told-done go e)) in
-        (u, went (touch (g .x .num)) y (stateOf somewhere s₁) (stateOf somewhere s₁) (told (g .go)) (m .is somewhere tt .is ∙ ap (λ r. (left r >> ret y) (stateOf somewhere s₁)) u))
+        let u = went (notOwn (g .x .num)) (tt {0}) nowhere nowhere (told a)
+        (own .is nowhere tt .is ∙ ap (λ r. (left r >> ret (tt {0})) nowhere) (told-done go e)) in (
+          u,
+          went (touch (g .x .num)) y (stateOf somewhere s₁) (stateOf somewhere s₁) (told (g .go))
+              (m .is somewhere tt .is ∙ ap (λ r. (left r >> ret y) (stateOf somewhere s₁)) u),
+        )
 
     pub not-one : (n : ℕ) → go ≡ 0 → isProcess y ≡ true → n ≡ g .x .num - J 0 → n ≢ 1
     not-one n e b q z =
         let w = nothing e in
         let c : g .x .num ≡ J 1 = omega arith in
         let f = p .other (told-none (g .go) (w .1)) in
-        let h : isProcess (cellIn s₁ (g .x .num)) ≡ true = ap isProcess (sym (touched s₁ (g .x .num) y (came (stateOf somewhere s₁) (stateOf somewhere s₁) (touch (g .x .num)) y (w .1) (w .0) (m .is somewhere tt .is)))) ∙ b in
+        let h : isProcess (cellIn s₁ (g .x .num)) ≡ true = ap isProcess
+        (sym (touched s₁ (g .x .num) y
+        (came (stateOf somewhere s₁) (stateOf somewhere s₁) (touch (g .x .num)) y (w .1) (w .0) (m .is somewhere tt .is)))) ∙ b in
         true≢false (sym (rw (eq-eqb (g .x .num) (J 1) c, h) refl) ∙ f)

@@ -57,7 +57,8 @@ module _ {A : Type 0} (t : List ℕ) {k : ℕ} {M : Act A} {x y : List ℕ × Li
   part-quiet p f = part-silent (λ rs h. quietly [] (told-top [] h p) f)
 
 -- the same line, of another block
-module _ {A B : Type 0} {t : List ℕ} {k j : ℕ} {M : Act A} {N : Act B} {x x′ y y′ : List ℕ × List ℕ} {d : List ℕ} {at : ℕ} {d′ : List ℕ} {r : Printed} {v : A} {u : B} where
+module _ {A B : Type 0} {t : List ℕ} {k j : ℕ} {M : Act A} {N : Act B} {x x′ y y′ : List ℕ
+    × List ℕ} {d : List ℕ} {at : ℕ} {d′ : List ℕ} {r : Printed} {v : A} {u : B} where
   pub part-as : Part t k M x d at y d′ r v
       → ((rs : List Region) → Tells t rs → (line : List ℕ) → Follows telling (Hears rs (length d - at)) k M (x, []) none (y, line) (told (r .go)) v
       → Follows telling (Hears rs (length d - at)) j N (x′, []) none (y′, line) (told (r .go)) u)

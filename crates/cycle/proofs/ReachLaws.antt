@@ -156,7 +156,8 @@ module _ {top : ℕ} {s l : List ℕ} where
       goes : (t : State) → (left (told go) >> execute (suc m) y) t ≡ (left (told r) >> execute (suc m) y) t
       goes t =
           same (told go) _ _ t
-          (λ _. sym (bind-ok (refuseIf (eqb (suc m) 0) (WrongKind (y .num))) (λ u. execute (suc m) y) t t tt (passes _ _ t (ne-eqb (suc m) 0 (omega arith))) refl))
+          (λ _. sym (bind-ok (refuseIf (eqb (suc m) 0) (WrongKind (y .num))) (λ u. execute (suc m) y) t t tt
+          (passes _ _ t (ne-eqb (suc m) 0 (omega arith))) refl))
           ∙ rest (λ u. execute (suc m) y) (told go) (told r) (refuseIf (eqb (suc m) 0) (WrongKind (y .num))) tt t t (d .is t tt .is)
 
 -- a test that nothing refused does not hold, and nothing was refused before it

@@ -47,7 +47,8 @@ module _ (rs : List Region) {t : List ℕ} (tells : Tells t rs) {k : ℕ} {s l s
     accepted e =
         let u = stateOf (after heard (lineIn d′ at (r .end))) s₁ in
         let c : cycle (alone (stateAt rs s d at)) ≡ done tt u = comes ∙ ap (λ a. (left a >> ret (tt {0})) u) (told-done (r .go) e) in
-        let m : length d - at - length (lineIn d′ at (r .end)) ≡ length d′ - r .end = omega (arith, line-length d at d′ r (p .stands), p .stands .sized, p .stands .starts) in
+        let m : length d - at - length (lineIn d′ at (r .end)) ≡ length d′ - r .end = omega
+        (arith, line-length d at d′ r (p .stands), p .stands .sized, p .stands .starts) in
         ap (afterCycle (stateAt rs s d at)) c
         ∙ (λ i. continues (stateOf (record { regions = rs; lines = sym (so-far d at d′ r (p .stands)) i; room = m i }) s₁))
 

@@ -16,7 +16,8 @@ use Rattle.structures.specs.Walks.{Clean}
 use Rattle.printing.specs.declared.Printed.{Printed}
 use Rattle.printing.specs.Telling.{Hears, telling, lineIn, Stands}
 
-pub record Part {A : Type 0} (table : List ℕ) (k : ℕ) (M : Act A) (x : List ℕ × List ℕ) (d : List ℕ) (at : ℕ) (y : List ℕ × List ℕ) (d′ : List ℕ) (r : Printed) (v : A)
+pub record Part {A : Type 0} (table : List ℕ) (k : ℕ) (M : Act A) (x : List ℕ × List ℕ) (d : List ℕ) (at : ℕ) (y : List ℕ × List ℕ) (d′ : List ℕ)
+    (r : Printed) (v : A)
     : Type 0 where
   pub follows : (rs : List Region) → Tells table rs
       → Follows telling (Hears rs (length d - at)) k M (x, []) none (y, lineIn d′ at (r .end)) (told (r .go)) v

@@ -77,7 +77,8 @@ fn perform(
     at: usize,
     j: u16,
 ) -> Printed
-    requires { ⌜ Lends (2 * length (now cells) + 40) (now cells) (now log) (now order) (now marks) (now table) (now out) at × (j ≢ 1) × (J j < 2 ^ 16) ⌝ }
+    requires { ⌜ Lends (2 * length (now cells) + 40) (now cells) (now log) (now order) (now marks) (now table) (now out) at
+        × (j ≢ 1) × (J j < 2 ^ 16) ⌝ }
     ensures { λ r. ⌜ Steps (2 * length (now (cells .entry)) + 40) (perform j) cells log table out at r (andThen goesOn) ⌝ }
     ensures { λ _. ⌜ Clean (now (cells .exit)) (now (order .exit)) (now (marks .exit)) ⌝ }
 {
@@ -117,7 +118,8 @@ fn execute(
     x: Symbol,
 ) -> Operated
     requires { ⌜ Lends (3 * length (now cells) + 41) (now cells) (now log) (now order) (now marks) (now table) (now out) at ⌝ }
-    ensures { λ r. ⌜ Steps (3 * length (now (cells .entry)) + 41) (executes x) cells log table out at (record { go = r .go; end = r .end }) (controlOf (r .away)) ⌝ }
+    ensures { λ r. ⌜ Steps (3 * length (now (cells .entry)) + 41) (executes x) cells log table out at
+        (record { go = r .go; end = r .end }) (controlOf (r .away)) ⌝ }
     ensures { λ _. ⌜ Clean (now (cells .exit)) (now (order .exit)) (now (marks .exit)) ⌝ }
 {
     let top = top_of(table);
@@ -161,7 +163,8 @@ fn operate(
     f: Fetched,
 ) -> Operated
     requires { ⌜ Lends (3 * length (now cells) + 41) (now cells) (now log) (now order) (now marks) (now table) (now out) at ⌝ }
-    ensures { λ r. ⌜ Steps (3 * length (now (cells .entry)) + 41) (operate (f .p) (f .x)) cells log table out at (record { go = r .go; end = r .end }) (controlOf (r .away)) ⌝ }
+    ensures { λ r. ⌜ Steps (3 * length (now (cells .entry)) + 41) (operate (f .p) (f .x)) cells log table out at
+        (record { go = r .go; end = r .end }) (controlOf (r .away)) ⌝ }
     ensures { λ _. ⌜ Clean (now (cells .exit)) (now (order .exit)) (now (marks .exit)) ⌝ }
 {
     let p = f.p;

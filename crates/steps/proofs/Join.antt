@@ -87,7 +87,8 @@ module _ {S E A : Type 0} where
 
 -- a test that holds is the refusal, whatever the value would be
 module _ {S E A : Type 0} where
-  the-refusal : (t : S) (z : E) (v : A) (a r : Option E) → (left a >> refuseIf true z) t ≡ (left r >> ret (tt {0})) t → (left a >> refuse z) t ≡ (left r >> ret v) t
+  the-refusal : (t : S) (z : E) (v : A) (a r : Option E) → (left a >> refuseIf true z) t ≡ (left r >> ret (tt {0})) t
+      → (left a >> refuse z) t ≡ (left r >> ret v) t
   unfolding left _>>_ ret refuse refuseIf
   the-refusal t z v none none p = absurd (let q : _≡_ {A = ℕ} 0 1 = cc in omega arith)
   the-refusal t z v none (some e) p = let q : z ≡ e = cc in ap (λ (d : E). refused d) q

@@ -30,22 +30,17 @@ abbrev μ-loop : tie.MeasureT-loop
 loop-holds : tie.Need-loop-holds Inv-loop μ-loop
 loop-holds c =
     let c₁ = c .before .before .before in
-    let a = (c₁ .args .cells) in ((c₁ .pre .0), (c₁ .pre .1), omega arith, omega arith, refl, refl, refl, refl, λ rs w. begins rs ((c₁ .args .cells .now)) ((c₁ .args .out .now)) ((c₁ .args .budget)))
-
-finished-requires : tie.Need-finished-requires Inv-loop μ-loop
-finished-requires c κs = search needs
-
-came-to-requires : tie.Need-came-to-requires Inv-loop μ-loop
-came-to-requires c κs = search needs
-
-same-length : tie.Need-same-length Inv-loop μ-loop
-same-length c = search needs
-
-same-length-2 : tie.Need-same-length-2 Inv-loop μ-loop
-same-length-2 c = search needs
-
-same-length-3 : tie.Need-same-length-3 Inv-loop μ-loop
-same-length-3 c = search needs
+    let a = (c₁ .args .cells) in (
+      (c₁ .pre .0),
+      (c₁ .pre .1),
+      omega arith,
+      omega arith,
+      refl,
+      refl,
+      refl,
+      refl,
+      λ rs w. begins rs ((c₁ .args .cells .now)) ((c₁ .args .out .now)) ((c₁ .args .budget)),
+    )
 
 returns : tie.Need-returns Inv-loop μ-loop
 unfolding isFinished
@@ -58,7 +53,8 @@ returns c =
     let t = stateAt rs (c₃ .loop .cells) (c₃ .loop .out) (c₃ .loop .at) in
     let none : (c₄ .args .budget) - (c₃ .loop .done) ≡ 0 = omega (arith, (c .before .if2 .taken)) in
     ap (λ (r : Ran). numbers r (c₃ .loop .cells) (c₃ .loop .out)) (c .came-to .ensures)
-    ∙ closes rs (c₄ .args .budget) _ (c₄ .args .cells .now) (c₄ .args .out .now) (c₃ .loop .cells) (c₃ .loop .out) _ refl refl (c₃ .loop .inv .1) (c₃ .loop .inv .3) (c₃ .loop .inv .7) ((c₃ .loop .inv .8) rs w)
+    ∙ closes rs (c₄ .args .budget) _ (c₄ .args .cells .now) (c₄ .args .out .now) (c₃ .loop .cells) (c₃ .loop .out) _ refl refl (c₃ .loop .inv .1)
+    (c₃ .loop .inv .3) (c₃ .loop .inv .7) ((c₃ .loop .inv .8) rs w)
     (ap (λ i. runFrom i (c₃ .loop .done) t) none ∙ run-spent t (c₃ .loop .done) (sym (c₂ .finished .ensures) ∙ not-true _ (c₁ .if1 .taken)))
 
 cycle-requires : tie.Need-cycle-requires Inv-loop μ-loop
@@ -66,9 +62,6 @@ cycle-requires c κs =
     let c₁ = c .before .before .before .before .before .before .before .before .before in
     let c₂ = c₁ .before .before .before .before in
     ((c₁ .loop .inv .0), (c₁ .loop .inv .3), (c₂ .pre .2))
-
-enum-known-c : tie.Need-enum-known-c Inv-loop μ-loop
-enum-known-c c = search needs
 
 add-done : tie.Need-add-done Inv-loop μ-loop
 add-done c =
@@ -95,7 +88,9 @@ loop-again c =
     let l = (c₅ .loop .inv) in
     let d = (c₁ .cycle .kept) in
     let more : (c₅ .loop .done) < (c₆ .args .budget) = omega (arith, l .2, (c₂ .if2 .left)) in
-    let (q, up, within, past) = subst (λ r. Came ((c₆ .pre .2) .regions) (c₅ .loop .cells) (c₅ .loop .out) (c₅ .loop .at) (c₁ .cycle .last .0) (c₁ .cycle .last .1 .1 .1 .1 .1 .0) r) (c .before .c .given .1) ((c₁ .cycle .ensures) ((c₆ .pre .2) .regions) ((c₆ .pre .2) .tells) .came) in
+    let (q, up, within, past) = subst
+    (λ r. Came ((c₆ .pre .2) .regions) (c₅ .loop .cells) (c₅ .loop .out) (c₅ .loop .at) (c₁ .cycle .last .0) (c₁ .cycle .last .1 .1 .1 .1 .1 .0) r)
+    (c .before .c .given .1) ((c₁ .cycle .ensures) ((c₆ .pre .2) .regions) ((c₆ .pre .2) .tells) .came) in
     let kept = (c₁ .cycle .ensures) ((c₆ .pre .2) .regions) ((c₆ .pre .2) .tells) in (
       kept .ready,
       kept .formed (l .1),
@@ -106,24 +101,12 @@ loop-again c =
       d .1 .0 ∙ l .6,
       past ∙ past-later (c₅ .loop .at) _ (c₅ .loop .out) (c₆ .args .out .now) up (l .7),
       λ rs w.
-          let (goes, up, within, past) = subst (λ r. Came rs (c₅ .loop .cells) (c₅ .loop .out) (c₅ .loop .at) (c₁ .cycle .last .0) (c₁ .cycle .last .1 .1 .1 .1 .1 .0) r) (c .before .c .given .1) ((c₁ .cycle .ensures) rs w .came) in
-          l .8 rs w ∙ run-goes (stateAt rs (c₅ .loop .cells) (c₅ .loop .out) (c₅ .loop .at)) (c₅ .loop .done) (c₆ .args .budget) more (sym (c₄ .finished .ensures) ∙ not-true _ (c₃ .if1 .taken)) _ goes,
+          let (goes, up, within, past) = subst
+          (λ r. Came rs (c₅ .loop .cells) (c₅ .loop .out) (c₅ .loop .at) (c₁ .cycle .last .0) (c₁ .cycle .last .1 .1 .1 .1 .1 .0) r)
+          (c .before .c .given .1) ((c₁ .cycle .ensures) rs w .came) in
+          l .8 rs w ∙ run-goes (stateAt rs (c₅ .loop .cells) (c₅ .loop .out) (c₅ .loop .at)) (c₅ .loop .done) (c₆ .args .budget) more
+          (sym (c₄ .finished .ensures) ∙ not-true _ (c₃ .if1 .taken)) _ goes,
     )
-
-enum-known-c-2 : tie.Need-enum-known-c-2 Inv-loop μ-loop
-enum-known-c-2 c = search needs
-
-came-to-requires-2 : tie.Need-came-to-requires-2 Inv-loop μ-loop
-came-to-requires-2 c κs = search needs
-
-same-length-4 : tie.Need-same-length-4 Inv-loop μ-loop
-same-length-4 c = search needs
-
-same-length-5 : tie.Need-same-length-5 Inv-loop μ-loop
-same-length-5 c = search needs
-
-same-length-6 : tie.Need-same-length-6 Inv-loop μ-loop
-same-length-6 c = search needs
 
 returns-2 : tie.Need-returns-2 Inv-loop μ-loop
 unfolding isFinished Came
@@ -138,23 +121,12 @@ returns-2 c =
     λ rs w.
     let l = (c₆ .loop .inv) in
     let t = stateAt rs (c₆ .loop .cells) (c₆ .loop .out) (c₆ .loop .at) in
-    let (q, s, o) = subst (λ r. Came rs (c₆ .loop .cells) (c₆ .loop .out) (c₆ .loop .at) (c₂ .cycle .last .0) (c₂ .cycle .last .1 .1 .1 .1 .1 .0) r) (c₁ .c2 .given .1) ((c₂ .cycle .ensures) rs w .came) in
+    let (q, s, o) = subst (λ r. Came rs (c₆ .loop .cells) (c₆ .loop .out) (c₆ .loop .at) (c₂ .cycle .last .0) (c₂ .cycle .last .1 .1 .1 .1 .1 .0) r)
+    (c₁ .c2 .given .1) ((c₂ .cycle .ensures) rs w .came) in
     let more : (c₆ .loop .done) < (c₇ .args .budget) = omega (arith, l .2, (c₃ .if2 .left)) in
     ap (λ (r : Ran). numbers r (c₂ .cycle .last .0) (c₂ .cycle .last .1 .1 .1 .1 .1 .0)) (c .came-to2 .ensures)
     ∙ closes rs (c₇ .args .budget) _ (c₇ .args .cells .now) (c₇ .args .out .now) (c₆ .loop .cells) (c₆ .loop .out) _ s o (l .1) (l .3) (l .7) (l .8 rs w)
     (run-stops t (c₆ .loop .done) (c₇ .args .budget) more (sym (c₅ .finished .ensures) ∙ not-true _ (c₄ .if1 .taken)) _ q)
-
-came-to-requires-3 : tie.Need-came-to-requires-3 Inv-loop μ-loop
-came-to-requires-3 c κs = search needs
-
-same-length-7 : tie.Need-same-length-7 Inv-loop μ-loop
-same-length-7 c = search needs
-
-same-length-8 : tie.Need-same-length-8 Inv-loop μ-loop
-same-length-8 c = search needs
-
-same-length-9 : tie.Need-same-length-9 Inv-loop μ-loop
-same-length-9 c = search needs
 
 returns-3 : tie.Need-returns-3 Inv-loop μ-loop
 unfolding isFinished
@@ -166,7 +138,8 @@ returns-3 c =
     let l = (c₂ .loop .inv) in
     ap (λ (r : Ran). numbers r (c₂ .loop .cells) (c₂ .loop .out)) (c .came-to3 .ensures)
     ∙ closes rs (c₃ .args .budget) _ (c₃ .args .cells .now) (c₃ .args .out .now) (c₂ .loop .cells) (c₂ .loop .out) _ refl refl (l .1) (l .3) (l .7) (l .8 rs w)
-    (run-finishes (stateAt rs (c₂ .loop .cells) (c₂ .loop .out) (c₂ .loop .at)) (c₂ .loop .done) _ (sym (c₁ .finished .ensures) ∙ not-false _ (c .before .if1 .left)))
+    (run-finishes (stateAt rs (c₂ .loop .cells) (c₂ .loop .out) (c₂ .loop .at)) (c₂ .loop .done) _
+    (sym (c₁ .finished .ensures) ∙ not-false _ (c .before .if1 .left)))
 
 pub cycles-spec : {M : Type 1} → statement M
 cycles-spec =
@@ -175,25 +148,25 @@ cycles-spec =
     Inv-loop
     μ-loop
     loop-holds
-    finished-requires
-    came-to-requires
-    same-length
-    same-length-2
-    same-length-3
+    (λ c κs. search needs)
+    (λ c κs. search needs)
+    (λ c. search needs)
+    (λ c. search needs)
+    (λ c. search needs)
     returns
     cycle-requires
-    enum-known-c
+    (λ c. search needs)
     add-done
     loop-less
     loop-again
-    enum-known-c-2
-    came-to-requires-2
-    same-length-4
-    same-length-5
-    same-length-6
+    (λ c. search needs)
+    (λ c κs. search needs)
+    (λ c. search needs)
+    (λ c. search needs)
+    (λ c. search needs)
     returns-2
-    came-to-requires-3
-    same-length-7
-    same-length-8
-    same-length-9
+    (λ c κs. search needs)
+    (λ c. search needs)
+    (λ c. search needs)
+    (λ c. search needs)
     returns-3)

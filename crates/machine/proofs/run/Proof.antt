@@ -21,36 +21,12 @@ passed c =
     let a = start c .args in
     subst (λ q. Asks (a .regions) (a .cells .now) q) (c .enum-told .given .1) (c .before .before .asks .ensures)
 
-asks-requires : tie.Need-asks-requires
-asks-requires c κs = search needs
-
-enum-known-q : tie.Need-enum-known-q
-enum-known-q c = search needs
-
-came-to-requires : tie.Need-came-to-requires
-came-to-requires c κs = search needs
-
-enum-told : tie.Need-enum-told
-enum-told c = search needs
-
-came-to-requires-2 : tie.Need-came-to-requires-2
-came-to-requires-2 c κs = search needs
-
-same-length : tie.Need-same-length
-same-length c = search needs
-
 returns : tie.Need-returns
 returns c =
     let c₁ = c .before .before in
     let c₂ = c₁ .before .before .before .before .before .before in
     ap (λ (r : Ran). numbers r (c₂ .args .cells .now) (c₂ .args .out .now)) (c .came-to2 .ensures)
     ∙ run-over _ _ _ _ (passed (c₁) .size) (c .before .if1 .taken)
-
-table-requires : tie.Need-table-requires
-table-requires c κs = search needs
-
-slice-aggregate-cycles : tie.Need-slice-aggregate-cycles
-slice-aggregate-cycles c = search needs
 
 cycles-requires : tie.Need-cycles-requires
 cycles-requires c κs =
@@ -64,11 +40,19 @@ cycles-requires c κs =
         clean = record { large = n .0; small = n .1; sized = length-replicate {A = ℕ} largestN 0; unmarked = refl };
       },
       passed-formed _ _ (d .sound),
-      record { low = omega (arith, n .0, n .1, (c₁ .table .ensures) .top, passed-end (c₃ .args .regions) (c₃ .args .cells .now) (omega (arith, n .0)) (d .sound)); regions = _; tells = (c₁ .table .ensures) },
+      record {
+        low = omega (
+          arith,
+          n .0,
+          n .1,
+          (c₁ .table .ensures) .top,
+          passed-end (c₃ .args .regions) (c₃ .args .cells .now) (omega (arith, n .0))
+              (d .sound),
+        );
+        regions = _;
+        tells = (c₁ .table .ensures);
+      },
     )
-
-same-length-2 : tie.Need-same-length-2
-same-length-2 c = search needs
 
 returns-2 : tie.Need-returns-2
 returns-2 c =
@@ -77,12 +61,6 @@ returns-2 c =
     let c₃ = c₂ .before .before .before .before in
     ap (λ (r : Ran). numbers r (c₃ .args .cells .now) (c₃ .args .out .now)) (c .came-to .ensures)
     ∙ run-unfit _ _ _ _ _ (subst (λ q. Asks (c₃ .args .regions) (c₃ .args .cells .now) q) (c₁ .q .given .1) (c₂ .asks .ensures))
-
-same-length-3 : tie.Need-same-length-3
-same-length-3 c = search needs
-
-same-length-4 : tie.Need-same-length-4
-same-length-4 c = search needs
 
 returns-3 : tie.Need-returns-3
 returns-3 c =
@@ -97,18 +75,18 @@ pub run-spec : {M : Type 1} → statement M
 run-spec =
     tie.close
     (tie.spec
-    asks-requires
-    enum-known-q
-    came-to-requires
-    enum-told
-    came-to-requires-2
-    same-length
+    (λ c κs. search needs)
+    (λ c. search needs)
+    (λ c κs. search needs)
+    (λ c. search needs)
+    (λ c κs. search needs)
+    (λ c. search needs)
     returns
-    table-requires
-    slice-aggregate-cycles
+    (λ c κs. search needs)
+    (λ c. search needs)
     cycles-requires
-    same-length-2
+    (λ c. search needs)
     returns-2
-    same-length-3
-    same-length-4
+    (λ c. search needs)
+    (λ c. search needs)
     returns-3)

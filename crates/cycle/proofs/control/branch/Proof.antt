@@ -6,31 +6,14 @@ use borrow.Author.Needs.{needs}
 use Rattle.cycle.proofs.control.branch.Statement.{statement}
 use Rattle.cycle.proofs.control.branch.Tie as tie
 
-own-requires : tie.Need-own-requires
-own-requires c κs = search needs
-
-cast-if1 : tie.Need-cast-if1
-cast-if1 c = search needs
-
-go-to-requires : tie.Need-go-to-requires
-go-to-requires c κs = search needs
-
-same-length : tie.Need-same-length
-same-length c = search needs
-
-same-length-2 : tie.Need-same-length-2
-same-length-2 c = search needs
-
 returns : tie.Need-returns
 unfolding branch
 returns c =
     let c₁ = c .before .before .before .before in
+    let c₁ = c₁ in
     let c₂ = c₁ .before .before .before in
     let c₃ = c₂ .before in
     looks _ (c₃ .own .ensures) (yes _ (eq-eqb _ _ (c₂ .if1 .taken)) (c₁ .go-to .ensures))
-
-same-length-3 : tie.Need-same-length-3
-same-length-3 c = search needs
 
 returns-2 : tie.Need-returns-2
 unfolding branch
@@ -40,11 +23,11 @@ pub branch-spec : {M : Type 1} → statement M
 branch-spec =
     tie.close
     (tie.spec
-    own-requires
-    cast-if1
-    go-to-requires
-    same-length
-    same-length-2
+    (λ c κs. search needs)
+    (λ c. search needs)
+    (λ c κs. search needs)
+    (λ c. search needs)
+    (λ c. search needs)
     returns
-    same-length-3
+    (λ c. search needs)
     returns-2)

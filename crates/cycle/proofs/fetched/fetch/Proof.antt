@@ -5,21 +5,6 @@ use borrow.Author.Needs.{needs}
 use Rattle.cycle.proofs.fetched.fetch.Statement.{statement}
 use Rattle.cycle.proofs.fetched.fetch.Tie as tie
 
-touch-requires : tie.Need-touch-requires
-touch-requires c κs = search needs
-
-is-term-requires : tie.Need-is-term-requires
-is-term-requires c κs = search needs
-
-refuse-if-requires : tie.Need-refuse-if-requires
-refuse-if-requires c κs = search needs
-
-is-process-requires : tie.Need-is-process-requires
-is-process-requires c κs = search needs
-
-regional-requires : tie.Need-regional-requires
-regional-requires c κs = search needs
-
 returns : tie.Need-returns
 unfolding fetch
 returns c =
@@ -27,13 +12,9 @@ returns c =
     let c₂ = c₁ .before in
     let c₃ = c₂ .before in
     let c₄ = c₃ .before in
-    bind _ (any (c₄ .touch .ensures)) (test (when _ (c₃ .is-term .ensures) (c₂ .refuse-if .ensures)) (yes _ (sym (c₁ .is-process .ensures) ∙ (c .before .if1 .taken)) (give-as (ap (λ x. order 0 x 0) (sym (c .regional .ensures))))))
-
-word-in-requires : tie.Need-word-in-requires
-word-in-requires c κs = search needs
-
-order-in-requires : tie.Need-order-in-requires
-order-in-requires c κs = search needs
+    bind _ (any (c₄ .touch .ensures))
+    (test (when _ (c₃ .is-term .ensures) (c₂ .refuse-if .ensures))
+    (yes _ (sym (c₁ .is-process .ensures) ∙ (c .before .if1 .taken)) (give-as (ap (λ x. order 0 x 0) (sym (c .regional .ensures))))))
 
 returns-2 : tie.Need-returns-2
 unfolding fetch
@@ -43,18 +24,20 @@ returns-2 c =
     let c₃ = c₂ .before in
     let c₄ = c₃ .before in
     let c₅ = c₄ .before in
-    bind _ (any (c₅ .touch .ensures)) (test (when _ (c₄ .is-term .ensures) (c₃ .refuse-if .ensures)) (else _ (sym (c₂ .is-process .ensures) ∙ (c₁ .if1 .left)) (alike (ap (orderIn _) (sym (c .before .word-in .ensures))) (c .order-in .ensures))))
+    bind _ (any (c₅ .touch .ensures))
+    (test (when _ (c₄ .is-term .ensures) (c₃ .refuse-if .ensures))
+    (else _ (sym (c₂ .is-process .ensures) ∙ (c₁ .if1 .left)) (alike (ap (orderIn _) (sym (c .before .word-in .ensures))) (c .order-in .ensures))))
 
 pub fetch-spec : {M : Type 1} → statement M
 fetch-spec =
     tie.close
     (tie.spec
-    touch-requires
-    is-term-requires
-    refuse-if-requires
-    is-process-requires
-    regional-requires
+    (λ c κs. search needs)
+    (λ c κs. search needs)
+    (λ c κs. search needs)
+    (λ c κs. search needs)
+    (λ c κs. search needs)
     returns
-    word-in-requires
-    order-in-requires
+    (λ c κs. search needs)
+    (λ c κs. search needs)
     returns-2)

@@ -7,14 +7,8 @@ use Rattle.cycle.proofs.past.is_j1.Tie as tie
 returns : tie.Need-returns
 returns c = simp (ne-eqb _ _ (c .if1 .taken))
 
-peek-requires : tie.Need-peek-requires
-peek-requires c κs = search needs
-
-is-process-requires : tie.Need-is-process-requires
-is-process-requires c κs = search needs
-
 returns-2 : tie.Need-returns-2
 returns-2 c = simp (eq-eqb _ _ (c .before .before .if1 .left), (c .before .peek .ensures), (c .is-process .ensures))
 
 pub is-j1-spec : {M : Type 1} → statement M
-is-j1-spec = tie.close (tie.spec returns peek-requires is-process-requires returns-2)
+is-j1-spec = tie.close (tie.spec returns (λ c κs. search needs) (λ c κs. search needs) returns-2)

@@ -30,38 +30,42 @@ add-turns c = omega (arith, (c .before .before .pre .1))
 loop-holds : tie.Need-loop-holds Inv-loop μ-loop
 loop-holds c = (refl, refl, omega arith, reach-most _ (omega arith) reach-none)
 
-is-j1-requires : tie.Need-is-j1-requires Inv-loop μ-loop
-is-j1-requires c κs = search needs
-
-own-requires : tie.Need-own-requires Inv-loop μ-loop
-own-requires c κs = search needs
-
 pop-requires : tie.Need-pop-requires Inv-loop μ-loop
 pop-requires c κs =
     let c₁ = c .before .before .before .before in
+    let c₁ = c₁ in
     let c₂ = c₁ .before .before .before in
     let c₃ = c₂ .before .before .before in
     let t = and-true (ltb 0 (c₂ .loop .turns)) _ (c₁ .if1 .taken) in
-    record { fits = omega (arith, ltb-true 0 (c₂ .loop .turns) (t .0), (c₂ .loop .inv .1), (c₂ .loop .inv .2), (c₂ .loop .inv .3 .kept .count), (c₃ .pre .0 .fits)) }
-
-symbol-requires : tie.Need-symbol-requires Inv-loop μ-loop
-symbol-requires c κs = search needs
+    record {
+      fits = omega (
+        arith,
+        ltb-true 0 (c₂ .loop .turns) (t .0),
+        (c₂ .loop .inv .1),
+        (c₂ .loop .inv .2),
+        (c₂ .loop .inv .3 .kept .count),
+        (c₃ .pre .0 .fits),
+      );
+    }
 
 sub-turns : tie.Need-sub-turns Inv-loop μ-loop
 sub-turns c =
     let c₁ = c .before .before .before .before .before .before .before .before .before .before in
+    let c₁ = c₁ in
     let c₂ = c₁ .before .before .before in
     omega (arith, ltb-true 0 (c₂ .loop .turns) (and-true (ltb 0 (c₂ .loop .turns)) _ (c₁ .if1 .taken) .0))
 
 loop-less : tie.Need-loop-less Inv-loop μ-loop
 loop-less c =
     let c₁ = c .before .before .before .before .before .before .before .before .before .before in
+    let c₁ = c₁ in
     let c₂ = c₁ .before .before .before in
     omega (arith, ltb-true 0 (c₂ .loop .turns) (and-true (ltb 0 (c₂ .loop .turns)) _ (c₁ .if1 .taken) .0))
 
 loop-again : tie.Need-loop-again Inv-loop μ-loop
 loop-again c =
     let c₁ = c .before .before .before .before .before in
+    let c₁ = c₁ in
     let c₂ = c₁ .before .before .before in
     let c₃ = c₂ .before .before in
     let c₄ = c₃ .before in
@@ -71,24 +75,17 @@ loop-again c =
       (c₁ .pop .kept .0) ∙ (c₅ .loop .inv .0),
       (c₁ .pop .kept .1 .0) ∙ (c₅ .loop .inv .1),
       omega (arith, (c₅ .loop .inv .2)),
-      reach-most _ (omega (arith, more, (c₅ .loop .inv .2)))
-          (reach-then ((c₅ .loop .inv .3)) (j1-turn ((c₅ .loop .turns)) ((c₅ .loop .y)) ((c₅ .loop .go)) more (sym (c₄ .is-j1 .ensures) ∙ t .1) (c₂ .own .ensures) (c .symbol .ensures) (c₁ .pop .ensures))),
+      reach-most _ (omega (arith, more, (c₅ .loop .inv .2))) (reach-then ((c₅ .loop .inv .3))
+          (j1-turn ((c₅ .loop .turns)) ((c₅ .loop .y)) ((c₅ .loop .go)) more (sym (c₄ .is-j1 .ensures) ∙ t .1) (c₂ .own .ensures) (c .symbol .ensures)
+          (c₁ .pop .ensures))),
     )
-
-refuse-if-requires : tie.Need-refuse-if-requires Inv-loop μ-loop
-refuse-if-requires c κs = search needs
-
-same-length : tie.Need-same-length Inv-loop μ-loop
-same-length c = search needs
-
-same-length-2 : tie.Need-same-length-2 Inv-loop μ-loop
-same-length-2 c = search needs
 
 returns : tie.Need-returns Inv-loop μ-loop
 returns c =
     let c₁ = c .before .before in
     let c₂ = c₁ .before .before in
-    past _ (c₂ .loop .turns) ((c₂ .loop .y)) ((c₂ .loop .go)) _ ((c₂ .loop .inv .2)) ((c₂ .loop .inv .3)) ((c₁ .is-j1 .ensures)) ((c .before .if1 .left)) (c .refuse-if .ensures)
+    past _ (c₂ .loop .turns) ((c₂ .loop .y)) ((c₂ .loop .go)) _ ((c₂ .loop .inv .2)) ((c₂ .loop .inv .3)) ((c₁ .is-j1 .ensures)) ((c .before .if1 .left))
+    (c .refuse-if .ensures)
 
 pub past-j1-spec : {M : Type 1} → statement M
 past-j1-spec =
@@ -98,14 +95,14 @@ past-j1-spec =
     μ-loop
     add-turns
     loop-holds
-    is-j1-requires
-    own-requires
+    (λ c κs. search needs)
+    (λ c κs. search needs)
     pop-requires
-    symbol-requires
+    (λ c κs. search needs)
     sub-turns
     loop-less
     loop-again
-    refuse-if-requires
-    same-length
-    same-length-2
+    (λ c κs. search needs)
+    (λ c. search needs)
+    (λ c. search needs)
     returns)

@@ -78,7 +78,8 @@ again c =
       subst (Only _) (sym (back-more (p .args .order .now) (l .i) (omega arith))) (only-more _ _ (l .inv .2)),
       subst (λ ns. Run (unpacked s) x ns (c .free-link .result)) (sym e)
           (run-found s (newsOf (l .marks) (p .args .order .now) (l .i)) x (l .next) (c₁ .before .before .peek .result) (l .inv .3)
-          (c .before .before .if2 .left) (c₁ .before .before .peek .ensures) (sym (c₁ .before .is-free .ensures) ∙ not-false _ (c₁ .if1 .left)) (c .free-link .ensures)),
+          (c .before .before .if2 .left) (c₁ .before .before .peek .ensures) (sym (c₁ .before .is-free .ensures) ∙ not-false _ (c₁ .if1 .left))
+          (c .free-link .ensures)),
     )
 
 pub find-spec : {M : Type 1} → statement M
