@@ -3,6 +3,7 @@ pub mod OperateLaws
 pub mod ReachLaws
 pub mod PartLaws
 pub mod ExecuteLaws
+pub mod FetchLaws
 pub mod OrderLaws
 pub mod InterpretLaws
 pub mod TurnLaws

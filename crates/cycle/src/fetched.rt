@@ -1,4 +1,5 @@
 // Step 3 before its operation: what is to be done.
+ghost use mathlib.Core.Path.{_≡_};
 ghost use Rattle.cells.specs.Layout.{wordOf};
 ghost use Rattle.undo.specs.Did.{Top, Reads};
 ghost use Rattle.cycle.specs.Order.{orderOf, orderIn, fetch};
@@ -12,13 +13,30 @@ pub struct Fetched {
     pub link: u16,
 }
 
+// A refusal, and nothing to be done.
+fn nothing(go: u32) -> Fetched
+    ensures { λ r. ⌜ r .go ≡ go ⌝ }
+{
+    Fetched {
+        go: go,
+        p: 0,
+        x: Symbol::EMPTY,
+        link: 0,
+    }
+}
+
 // A word w that was fetched from cell c.
-fn order_in(cells: &[u64], go: u32, top: u16, c: u16, w: u64) -> Fetched
-    ensures { λ r. ⌜ Reads (Top top) (orderIn c (wordOf w)) cells go (r .go) (orderOf r) ⌝ }
+fn order_in(cells: &[u64], top: u16, c: u16, w: u64) -> Fetched
+    ensures { λ r. ⌜ Reads (Top top) (orderIn c (wordOf w)) cells 0 (r .go) (orderOf r) ⌝ }
 {
     let q = (w / cells::Q % 256) as u8;
-    let go = undo::refuse_if(go, q == Symbol::INTERNAL, 23, c);
-    let go = acts::not_own(go, c);
+    if q == Symbol::INTERNAL {
+        return nothing(undo::refused(23, c));
+    }
+    let go = acts::not_own(0, c);
+    if go != 0 {
+        return nothing(go);
+    }
     let g = acts::designate(cells, go, top, q, (w / cells::SYMB % 65536) as u16);
     let x = g.x;
     Fetched {
@@ -30,18 +48,26 @@ fn order_in(cells: &[u64], go: u32, top: u16, c: u16, w: u64) -> Fetched
 }
 
 // "fetch the word H1 names and its LINK"; "A process cell fetched directly does its process; its LINK reads as 0".
-pub fn fetch(cells: &[u64], go: u32, top: u16, c: u16) -> Fetched
-    ensures { λ r. ⌜ Reads (Top top) (fetch c) cells go (r .go) (orderOf r) ⌝ }
+pub fn fetch(cells: &[u64], top: u16, c: u16) -> Fetched
+    ensures { λ r. ⌜ Reads (Top top) (fetch c) cells 0 (r .go) (orderOf r) ⌝ }
 {
-    let t = acts::touch(cells, go, c);
-    let go = undo::refuse_if(t.go, cells::is_term(t.x), 23, c);
-    if cells::is_process(t.x) {
+    if c == 0 {
+        return nothing(undo::refused(21, 0));
+    }
+    let x = cells::peek(cells, c);
+    if cells::is_word(x) {
+        return order_in(cells, top, c, cells::word_in(x));
+    }
+    if cells::is_free(x) {
+        return nothing(undo::refused(22, c));
+    }
+    if cells::is_process(x) {
         return Fetched {
-            go: go,
+            go: 0,
             p: 0,
             x: Symbol::regional(c),
             link: 0,
         };
     }
-    order_in(cells, go, top, c, cells::word_in(t.x))
+    nothing(undo::refused(23, c))
 }

@@ -206,7 +206,7 @@ fn interpret(
     ensures { λ _. ⌜ Clean (now (cells .exit)) (now (order .exit)) (now (marks .exit)) ⌝ }
 {
     let top = top_of(table);
-    let f = fetched::fetch(cells, 0, top, c);
+    let f = fetched::fetch(cells, top, c);
     if f.go != 0 {
         return Printed { go: f.go, end: at };
     }

@@ -35,6 +35,11 @@ pub fn past_j1(cells: &mut [u64], log: &mut [u64], top: u16, x: Symbol) -> GotSy
         y = cells::symbol(w0);
         turns -= 1;
     }
-    let go = undo::refuse_if(go, turns == 0, 23, y.num);
+    if turns == 0 {
+        return GotSymbol {
+            go: undo::refuse_if(go, true, 23, y.num),
+            x: y,
+        };
+    }
     GotSymbol { go: go, x: y }
 }

@@ -1,32 +1,34 @@
-use Rattle.steps.proofs.Sequence.{bind, test, when, yes, else, any, give-as, alike}
-use mathlib.Core.Path.{sym, ap, _∙_}
-use Rattle.cycle.specs.Order.{fetch, order, orderIn}
+use mathlib.Core.Path.{refl}
+use Rattle.acts.proofs.Used.{r-zero, r-free}
+use Rattle.cycle.specs.Order.{fetch}
+use Rattle.cycle.proofs.FetchLaws.{by-word, by-process, by-term, as-told}
 use borrow.Author.Needs.{needs}
 use Rattle.cycle.proofs.fetched.fetch.Statement.{statement}
 use Rattle.cycle.proofs.fetched.fetch.Tie as tie
 
 returns : tie.Need-returns
 unfolding fetch
-returns c =
-    let c₁ = c .before .before in
-    let c₂ = c₁ .before in
-    let c₃ = c₂ .before in
-    let c₄ = c₃ .before in
-    bind _ (any (c₄ .touch .ensures))
-    (test (when _ (c₃ .is-term .ensures) (c₂ .refuse-if .ensures))
-    (yes _ (sym (c₁ .is-process .ensures) ∙ (c .before .if1 .taken)) (give-as (ap (λ x. order 0 x 0) (sym (c .regional .ensures))))))
+returns c = as-told (c .nothing .ensures) (r-zero _ 0 _ _ (c .before .refused .ensures) refl (c .before .before .if1 .taken))
 
 returns-2 : tie.Need-returns-2
+returns-2 c = by-word _ _ (c .before .before .before .before .peek .ensures) (c .before .before .before .before .before .if1 .left) (c .before .before .before .is-word .ensures) (c .before .before .if2 .taken) (c .before .word-in .ensures) (c .order-in .ensures)
+
+returns-3 : tie.Need-returns-3
 unfolding fetch
-returns-2 c =
-    let c₁ = c .before .before in
-    let c₂ = c₁ .before in
-    let c₃ = c₂ .before in
-    let c₄ = c₃ .before in
-    let c₅ = c₄ .before in
-    bind _ (any (c₅ .touch .ensures))
-    (test (when _ (c₄ .is-term .ensures) (c₃ .refuse-if .ensures))
-    (else _ (sym (c₂ .is-process .ensures) ∙ (c₁ .if1 .left)) (alike (ap (orderIn _) (sym (c .before .word-in .ensures))) (c .order-in .ensures))))
+returns-3 c =
+    as-told (c .nothing2 .ensures)
+    (r-free _ 0 _ _ _ _ (c .before .before .before .before .before .before .peek .ensures) (c .before .refused2 .ensures) refl (c .before .before .before .before .before .before .before .if1 .left) (c .before .before .before .is-free .ensures) (c .before .before .if3 .taken))
+
+returns-4 : tie.Need-returns-4
+returns-4 c =
+    by-process _ _ (c .before .before .before .before .before .before .before .peek .ensures) (c .before .before .before .before .before .before .before .before .if1 .left) (c .before .before .before .before .is-free .ensures) (c .before .before .before .if3 .left) (c .before .before .is-process .ensures) (c .before .if4 .taken)
+    (c .regional .ensures)
+
+returns-5 : tie.Need-returns-5
+returns-5 c =
+    as-told (c .nothing3 .ensures)
+    (by-term _ _ (c .before .before .before .before .before .before .before .before .peek .ensures) (c .before .before .before .before .before .before .before .before .before .if1 .left) (c .before .before .before .before .before .is-free .ensures) (c .before .before .before .before .if3 .left) (c .before .before .before .is-process .ensures) _
+    (c .before .before .before .before .before .before .before .is-word .ensures) (c .before .before .before .before .before .before .if2 .left) (c .before .before .if4 .left) (c .before .refused3 .ensures))
 
 pub fetch-spec : {M : Type 1} → statement M
 fetch-spec =
@@ -34,10 +36,19 @@ fetch-spec =
     (tie.spec
     (λ c κs. search needs)
     (λ c κs. search needs)
-    (λ c κs. search needs)
-    (λ c κs. search needs)
-    (λ c κs. search needs)
     returns
     (λ c κs. search needs)
     (λ c κs. search needs)
-    returns-2)
+    (λ c κs. search needs)
+    (λ c κs. search needs)
+    returns-2
+    (λ c κs. search needs)
+    (λ c κs. search needs)
+    (λ c κs. search needs)
+    returns-3
+    (λ c κs. search needs)
+    (λ c κs. search needs)
+    returns-4
+    (λ c κs. search needs)
+    (λ c κs. search needs)
+    returns-5)

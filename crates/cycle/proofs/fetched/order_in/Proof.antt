@@ -1,5 +1,9 @@
-use Rattle.steps.proofs.Sequence.{bind, test, test-of, give, any}
+use mathlib.Core.Path.{refl}
+use Rattle.paper.specs.declared.Refusal.the-variants.{WrongKind}
+use Rattle.steps.proofs.Sequence.{bind, test, give}
+use Rattle.undo.proofs.Early.{hands-on, stops, t-fails-eq, t-passes-eq}
 use Rattle.cycle.specs.Order.{orderIn}
+use Rattle.cycle.proofs.FetchLaws.{as-told}
 use borrow.Author.Needs.{needs}
 use Rattle.cycle.proofs.fetched.order_in.Statement.{statement}
 use Rattle.cycle.proofs.fetched.order_in.Tie as tie
@@ -7,9 +11,17 @@ use Rattle.cycle.proofs.fetched.order_in.Tie as tie
 returns : tie.Need-returns
 unfolding orderIn
 returns c =
-    let c₁ = c .before .before in
-    let c₂ = c₁ .before in
-    test (c₂ .refuse-if .ensures) (test (c₁ .not-own .ensures) (bind _ (c .before .designate .ensures) give))
+    let no = c .before .refused .ensures in
+    as-told (c .nothing .ensures) (stops (WrongKind _) _ (t-fails-eq 0 _ (WrongKind _) _ 4 no refl (c .before .before .if1 .taken)) no)
+
+returns-2 : tie.Need-returns-2
+unfolding orderIn
+returns-2 c =
+    as-told (c .nothing2 .ensures) (test (t-passes-eq (WrongKind _) _ 4 (c .before .before .before .if1 .left)) (test (c .before .before .not-own .ensures) (hands-on _ _ (c .before .if2 .taken))))
+
+returns-3 : tie.Need-returns-3
+unfolding orderIn
+returns-3 c = test (t-passes-eq (WrongKind _) _ 4 (c .before .before .before .before .if1 .left)) (test (c .before .before .before .not-own .ensures) (bind _ (c .before .designate .ensures) give))
 
 pub order-in-spec : {M : Type 1} → statement M
 order-in-spec =
@@ -18,8 +30,12 @@ order-in-spec =
     (λ c. search needs)
     (λ c κs. search needs)
     (λ c κs. search needs)
+    returns
+    (λ c κs. search needs)
+    (λ c κs. search needs)
+    returns-2
     (λ c. search needs)
     (λ c κs. search needs)
     (λ c. search needs)
     (λ c. search needs)
-    returns)
+    returns-3)

@@ -5,11 +5,14 @@ use mathlib.Core.Bool.{true}
 use native.Mathlib.Omega.{arith}
 use lib.ListN.{length}
 use lib.Dec.{ltb}
-use borrow.Author.Tests.{ltb-true, lt-ltb}
+use borrow.Author.Tests.{ltb-true, eq-eqb}
+use Rattle.paper.specs.declared.Refusal.the-variants.{WrongKind}
 use Rattle.paper.specs.Cycle.{execute}
 use Rattle.paper.proofs.SoundStore.{and-true}
+use Rattle.steps.proofs.Sequence.{when}
 use Rattle.undo.specs.Verdict.{told}
 use Rattle.undo.specs.Did.{Top, lent}
+use Rattle.undo.proofs.Early.{t-passes-eq}
 use Rattle.cycle.specs.Reaches.{Reaches}
 use Rattle.cycle.proofs.ReachLaws.{reach-none, reach-then, reach-most, j1-begins, j1-turn, past}
 use borrow.Author.Needs.{needs}
@@ -82,10 +85,17 @@ loop-again c =
 
 returns : tie.Need-returns Inv-loop μ-loop
 returns c =
+    let c₁ = c .before .before .before in
+    let c₂ = c₁ .before .before in
+    past _ (c₂ .loop .turns) (c₂ .loop .y) (c₂ .loop .go) _ (c₂ .loop .inv .2) (c₂ .loop .inv .3) (c₁ .is-j1 .ensures) (c .before .before .if1 .left)
+    (when (WrongKind _) (sym (eq-eqb _ 0 (c .before .if2 .taken))) (c .refuse-if .ensures))
+
+returns-2 : tie.Need-returns-2 Inv-loop μ-loop
+returns-2 c =
     let c₁ = c .before .before in
     let c₂ = c₁ .before .before in
-    past _ (c₂ .loop .turns) ((c₂ .loop .y)) ((c₂ .loop .go)) _ ((c₂ .loop .inv .2)) ((c₂ .loop .inv .3)) ((c₁ .is-j1 .ensures)) ((c .before .if1 .left))
-    (c .refuse-if .ensures)
+    past _ (c₂ .loop .turns) (c₂ .loop .y) (c₂ .loop .go) _ (c₂ .loop .inv .2) (c₂ .loop .inv .3) (c₁ .is-j1 .ensures) (c .before .if1 .left)
+    (t-passes-eq (WrongKind _) _ 0 (c .if2 .left))
 
 pub past-j1-spec : {M : Type 1} → statement M
 past-j1-spec =
@@ -105,4 +115,7 @@ past-j1-spec =
     (λ c κs. search needs)
     (λ c. search needs)
     (λ c. search needs)
-    returns)
+    returns
+    (λ c. search needs)
+    (λ c. search needs)
+    returns-2)
