@@ -1,10 +1,11 @@
 // The small actions of a cycle, line by line the blocks of paper/specs/Act. Each takes the verdict so far, `go`, and does nothing where that
 // is a refusal. The smallest return at their first refusal; what is made of them carries `go`. Reserved cells are those below `top`, where
 // the deck regions end.
-ghost use Prim.Native.Nat.{_+_};
+ghost use Prim.Native.Nat.{_+_, _≤_};
 ghost use mathlib.Core.Path.{_≡_};
 ghost use mathlib.Core.Bool.{_&&_, _||_};
 ghost use lib.Dec.{eqb};
+ghost use Rattle.paper.specs.Limits.{firstDeck};
 ghost use Rattle.paper.specs.Cell.{isHW, H as cellH};
 ghost use Rattle.paper.specs.Act.{own, touch, target, wordAt, wordTo, termAt, termTo, notOwn, named, readAt, takeAs, release};
 ghost use Rattle.paper.specs.Act.{linkBelow, preserve, hasBelow, pullUp};
@@ -14,7 +15,7 @@ ghost use Rattle.paper.specs.Process.{integerAt, sign, setH5, tests, copyName};
 ghost use Rattle.cells.specs.Layout.{unpackOf, wordOf, valueOf, termOf};
 ghost use Rattle.cells.specs.Pack.{packOf};
 ghost use Rattle.undo.specs.Log.{Room, writes};
-ghost use Rattle.undo.specs.Did.{Judged, Always, Top, reservedBy, nameBy, Sees, Reads, Did};
+ghost use Rattle.undo.specs.Did.{Judged, Always, Top, Suits, reservedBy, nameBy, Sees, Reads, Did};
 ghost use Rattle.acts.specs.Net.{stays};
 use paper::Symbol;
 use paper::limits;
@@ -309,7 +310,7 @@ fn q1_for_hw(c: u16, w: u64) -> bool
 }
 
 pub fn pull_up(cells: &mut [u64], log: &mut [u64], go: u32, top: u16, c: u16, below: u16) -> u32
-    requires { ⌜ Room (now log) (writes c + 1) ⌝ }
+    requires { ⌜ Suits (now log) (writes c + 1) top ⌝ }
     ensures { λ r. ⌜ Did (Top top) (writes c + 1) (pullUp c below) cells log go r tt ⌝ }
 {
     let g = word_at(cells, go, below);
@@ -330,7 +331,7 @@ pub fn pull_up(cells: &mut [u64], log: &mut [u64], go: u32, top: u16, c: u16, be
 }
 
 pub fn restore(cells: &mut [u64], log: &mut [u64], go: u32, top: u16, c: u16) -> u32
-    requires { ⌜ Room (now log) 2 ⌝ }
+    requires { ⌜ Suits (now log) 2 top ⌝ }
     ensures { λ r. ⌜ Did (Top top) 2 (restore c) cells log go r tt ⌝ }
 {
     let g = word_to(cells, go, c);
@@ -359,7 +360,7 @@ pub fn own_preserve(cells: &mut [u64], log: &mut [u64], go: u32, c: u16) -> u32
 }
 
 pub fn own_restore(cells: &mut [u64], log: &mut [u64], go: u32, top: u16, c: u16) -> u32
-    requires { ⌜ Room (now log) (writes c + 1) ⌝ }
+    requires { ⌜ Suits (now log) (writes c + 1) top ⌝ }
     ensures { λ r. ⌜ Did (Top top) (writes c + 1) (ownRestore c) cells log go r tt ⌝ }
 {
     let w = own(cells, c);
@@ -393,7 +394,7 @@ pub fn push(cells: &mut [u64], log: &mut [u64], go: u32, x: Symbol) -> u32
 }
 
 pub fn pop(cells: &mut [u64], log: &mut [u64], go: u32, top: u16) -> u32
-    requires { ⌜ Room (now log) 1 ⌝ }
+    requires { ⌜ Suits (now log) 1 top ⌝ }
     ensures { λ r. ⌜ Did (Top top) 1 pop cells log go r tt ⌝ }
 {
     own_restore(cells, log, go, top, limits::H0)
@@ -416,7 +417,7 @@ pub fn below(cells: &[u64], go: u32, c: u16, w: u64) -> Got
 }
 
 pub fn pops2(cells: &mut [u64], log: &mut [u64], go: u32, top: u16) -> u32
-    requires { ⌜ Room (now log) 2 ⌝ }
+    requires { ⌜ Suits (now log) 2 top ⌝ }
     ensures { λ r. ⌜ Did (Top top) 2 (pops 2) cells log go r tt ⌝ }
 {
     let go = pop(cells, log, go, top);
@@ -424,7 +425,7 @@ pub fn pops2(cells: &mut [u64], log: &mut [u64], go: u32, top: u16) -> u32
 }
 
 pub fn pops3(cells: &mut [u64], log: &mut [u64], go: u32, top: u16) -> u32
-    requires { ⌜ Room (now log) 3 ⌝ }
+    requires { ⌜ Suits (now log) 3 top ⌝ }
     ensures { λ r. ⌜ Did (Top top) 3 (pops 3) cells log go r tt ⌝ }
 {
     let go = pop(cells, log, go, top);
@@ -433,7 +434,7 @@ pub fn pops3(cells: &mut [u64], log: &mut [u64], go: u32, top: u16) -> u32
 
 // A pop and then a push of x, as one write, which is not logged.
 fn stays(cells: &mut [u64], log: &mut [u64], go: u32, top: u16, x: Symbol) -> u32
-    requires { ⌜ Room (now log) 0 ⌝ }
+    requires { ⌜ Suits (now log) 0 top ⌝ }
     ensures { λ r. ⌜ Did (Top top) 0 (stays x) cells log go r tt ⌝ }
 {
     let w = own(cells, limits::H0);
@@ -463,7 +464,7 @@ fn stays(cells: &mut [u64], log: &mut [u64], go: u32, top: u16, x: Symbol) -> u3
 
 // In a sound store H2 is a word, and the cell that is freed is taken again.
 pub fn gives1(cells: &mut [u64], log: &mut [u64], go: u32, top: u16, x: Symbol) -> u32
-    requires { ⌜ Room (now log) 2 ⌝ }
+    requires { ⌜ Suits (now log) 2 top ⌝ }
     ensures { λ r. ⌜ Did (Top top) 2 (gives 1 x) cells log go r tt ⌝ }
 {
     if cells::is_word(cells::peek(cells, limits::H2)) {
@@ -474,7 +475,7 @@ pub fn gives1(cells: &mut [u64], log: &mut [u64], go: u32, top: u16, x: Symbol) 
 }
 
 pub fn gives3(cells: &mut [u64], log: &mut [u64], go: u32, top: u16, x: Symbol) -> u32
-    requires { ⌜ Room (now log) 4 ⌝ }
+    requires { ⌜ Suits (now log) 4 top ⌝ }
     ensures { λ r. ⌜ Did (Top top) 4 (gives 3 x) cells log go r tt ⌝ }
 {
     let go = pop(cells, log, go, top);
@@ -498,6 +499,7 @@ pub fn symbol_in_that(cells: &[u64], go: u32, c: u16) -> GotSymbol
 }
 
 pub fn designate(cells: &[u64], go: u32, top: u16, q: u8, c: u16) -> GotSymbol
+    requires { ⌜ firstDeck ≤ top ⌝ }
     ensures { λ r. ⌜ Reads (Top top) (designate q c) cells go (r .go) (r .x) ⌝ }
 {
     if q == 0 {
@@ -528,7 +530,7 @@ pub fn set_h5(cells: &mut [u64], log: &mut [u64], go: u32, plus: bool)
 }
 
 pub fn tests1(cells: &mut [u64], log: &mut [u64], go: u32, top: u16, plus: bool) -> u32
-    requires { ⌜ Room (now log) 1 ⌝ }
+    requires { ⌜ Suits (now log) 1 top ⌝ }
     ensures { λ r. ⌜ Did (Top top) 1 (tests 1 plus) cells log go r tt ⌝ }
 {
     set_h5(cells, log, go, plus);
@@ -536,7 +538,7 @@ pub fn tests1(cells: &mut [u64], log: &mut [u64], go: u32, top: u16, plus: bool)
 }
 
 pub fn tests2(cells: &mut [u64], log: &mut [u64], go: u32, top: u16, plus: bool) -> u32
-    requires { ⌜ Room (now log) 2 ⌝ }
+    requires { ⌜ Suits (now log) 2 top ⌝ }
     ensures { λ r. ⌜ Did (Top top) 2 (tests 2 plus) cells log go r tt ⌝ }
 {
     set_h5(cells, log, go, plus);

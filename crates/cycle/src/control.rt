@@ -2,7 +2,7 @@
 ghost use Prim.Native.Nat.{_≤_};
 ghost use Rattle.paper.specs.Cycle.{goesOn, moved, descend, copyTo, putIn, goTo, branch, operate, toLink, advance, linkOf, ascend};
 ghost use Rattle.undo.specs.Log.{Room};
-ghost use Rattle.undo.specs.Did.{Always, Top, Reads, Did};
+ghost use Rattle.undo.specs.Did.{Suits, Always, Top, Reads, Did};
 ghost use Rattle.cycle.specs.Moves.{controlOf};
 use acts::GotCell;
 use paper::Symbol;
@@ -29,7 +29,7 @@ fn copy_to(cells: &mut [u64], log: &mut [u64], go: u32, c: u16) -> u32
 
 // P 2: (0) is put in cell c, and H0 restored.
 fn put_in(cells: &mut [u64], log: &mut [u64], go: u32, top: u16, c: u16) -> u32
-    requires { ⌜ Room (now log) 2 ⌝ }
+    requires { ⌜ Suits (now log) 2 top ⌝ }
     ensures { λ r. ⌜ Did (Top top) 2 (putIn c) cells log go r tt ⌝ }
 {
     let go = copy_to(cells, log, go, c);
@@ -58,7 +58,7 @@ pub fn branch(cells: &mut [u64], log: &mut [u64], go: u32, x: Symbol) -> bool
 
 // P 1 to 6, after which control goes on.
 pub fn on_symbol(cells: &mut [u64], log: &mut [u64], go: u32, top: u16, p: u8, x: Symbol) -> u32
-    requires { ⌜ Room (now log) 2 × (1 ≤ p) × (p ≤ 6) ⌝ }
+    requires { ⌜ Suits (now log) 2 top × (1 ≤ p) × (p ≤ 6) ⌝ }
     ensures { λ r. ⌜ Did (Top top) 2 (operate p x) cells log go r goesOn ⌝ }
 {
     match p {
@@ -75,7 +75,7 @@ pub fn on_symbol(cells: &mut [u64], log: &mut [u64], go: u32, top: u16, p: u8, x
 }
 
 fn to_link(cells: &mut [u64], log: &mut [u64], go: u32, top: u16, l: u16)
-    requires { ⌜ Room (now log) 0 ⌝ }
+    requires { ⌜ Suits (now log) 0 top ⌝ }
     ensures { λ _. ⌜ Did (Top top) 0 (toLink l) cells log go go tt ⌝ }
 {
     let x = acts::name_of(top, l);
@@ -84,7 +84,7 @@ fn to_link(cells: &mut [u64], log: &mut [u64], go: u32, top: u16, l: u16)
 
 // H1 gets the LINK, unless control has moved.
 pub fn advance(cells: &mut [u64], log: &mut [u64], go: u32, top: u16, l: u16, away: bool)
-    requires { ⌜ Room (now log) 0 ⌝ }
+    requires { ⌜ Suits (now log) 0 top ⌝ }
     ensures { λ _. ⌜ Did (Top top) 0 (advance l (controlOf away)) cells log go go tt ⌝ }
 {
     if away {
@@ -108,7 +108,7 @@ fn link_of(cells: &[u64], go: u32, c: u16) -> GotCell
 
 // Step 2.
 pub fn ascend(cells: &mut [u64], log: &mut [u64], go: u32, top: u16) -> u32
-    requires { ⌜ Room (now log) 1 ⌝ }
+    requires { ⌜ Suits (now log) 1 top ⌝ }
     ensures { λ r. ⌜ Did (Top top) 1 ascend cells log go r tt ⌝ }
 {
     let go = acts::own_restore(cells, log, go, top, limits::H1);

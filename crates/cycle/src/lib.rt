@@ -9,7 +9,7 @@ ghost use Rattle.paper.specs.Cell.{J, Region};
 ghost use Rattle.paper.specs.Process.{then as andThen, goesOn, perform};
 ghost use Rattle.paper.specs.Cycle.{executes, operate, interpret};
 ghost use Rattle.undo.specs.Log.{Room};
-ghost use Rattle.undo.specs.Did.{Top, Did};
+ghost use Rattle.undo.specs.Did.{Suits, Top, Did};
 ghost use Rattle.regions.specs.Lent.{Tells};
 ghost use Rattle.structures.specs.Walks.{Clean};
 ghost use Rattle.cycle.specs.Moves.{controlOf};
@@ -50,7 +50,7 @@ fn by_family(
     top: u16,
     j: u16,
 ) -> u32
-    requires { ⌜ Clean (now cells) (now order) (now marks) × Room (now log) (2 * length (now cells) + 40)
+    requires { ⌜ Clean (now cells) (now order) (now marks) × Suits (now log) (2 * length (now cells) + 40) top
         × (j ≢ 1) × (j ≢ 152) × (j ≢ 153) × (J j < 2 ^ 16) ⌝ }
     ensures { λ r. ⌜ Did (Top top) (2 * length (now (cells .entry)) + 40) (perform j) cells log 0 r (andThen goesOn) ⌝ }
     ensures { λ _. ⌜ Clean (now (cells .exit)) (now (order .exit)) (now (marks .exit)) ⌝ }

@@ -3,7 +3,6 @@ ghost use mathlib.Core.Path.{_≡_};
 ghost use Prim.Native.Nat.{_+_, _≤_};
 ghost use lib.ListN.{length};
 ghost use Rattle.paper.specs.Limits.{largestN};
-ghost use Rattle.undo.specs.Log.{Room};
 ghost use Rattle.cycle.specs.Reaches.{isJ1, Past};
 use acts::GotSymbol;
 use paper::Symbol;
@@ -23,7 +22,7 @@ fn is_j1(cells: &[u64], go: u32, c: u16) -> bool
 
 // The symbol that is executed in the end. Each J1 pops, so there are more turns than cells.
 pub fn past_j1(cells: &mut [u64], log: &mut [u64], top: u16, x: Symbol) -> GotSymbol
-    requires { ⌜ Room (now log) (length (now cells) + 1) × (length (now cells) ≤ largestN) ⌝ }
+    requires { ⌜ Suits (now log) (length (now cells) + 1) top × (length (now cells) ≤ largestN) ⌝ }
     ensures { λ r. ⌜ Past top x (now (cells .entry)) (now (log .entry)) (now (cells .exit)) (now (log .exit)) r ⌝ }
 {
     let mut turns = cells.len() + 1;

@@ -8,13 +8,13 @@ ghost use Rattle.paper.specs.Process.{isEnd, atEnd, dropEnd, moveOn, nextCell, 
 ghost use Rattle.paper.specs.Process.{perform, then as andThen, goesOn};
 ghost use Rattle.cells.specs.Layout.{wordOf};
 ghost use Rattle.undo.specs.Log.{Room};
-ghost use Rattle.undo.specs.Did.{Always, Top, reservedBy, Did};
+ghost use Rattle.undo.specs.Did.{Suits, Always, Top, reservedBy, Did};
 use paper::Symbol;
 use paper::limits;
 
 // J60 to J109 but J71, J72 and J74. Those named are listed.
 pub fn on_lists(cells: &mut [u64], log: &mut [u64], go: u32, top: u16, j: u16) -> u32
-    requires { ⌜ Room (now log) 5 × (60 ≤ j) × (j ≤ 109) × (j ≢ 71) × (j ≢ 72) × (j ≢ 74) ⌝ }
+    requires { ⌜ Suits (now log) 5 top × (60 ≤ j) × (j ≤ 109) × (j ≢ 71) × (j ≢ 72) × (j ≢ 74) ⌝ }
     ensures { λ r. ⌜ Did (Top top) 5 (perform j) cells log go r (andThen goesOn) ⌝ }
 {
     match j {
@@ -43,7 +43,7 @@ fn reserved_end(top: u16, c: u16, w: u64) -> bool
 
 // "at LINK 0, (0) stays, minus"
 fn at_end(cells: &mut [u64], log: &mut [u64], go: u32, top: u16, x: Symbol) -> u32
-    requires { ⌜ Room (now log) 2 ⌝ }
+    requires { ⌜ Suits (now log) 2 top ⌝ }
     ensures { λ r. ⌜ Did (Top top) 2 (atEnd x) cells log go r tt ⌝ }
 {
     acts::set_h5(cells, log, go, false);
@@ -52,7 +52,7 @@ fn at_end(cells: &mut [u64], log: &mut [u64], go: u32, top: u16, x: Symbol) -> u
 
 // "an empty next cell with LINK 0 is freed, the LINK made 0, and it counts as the end"
 fn drop_end(cells: &mut [u64], log: &mut [u64], go: u32, top: u16, w0: u64, w: u64) -> u32
-    requires { ⌜ Room (now log) 4 ⌝ }
+    requires { ⌜ Suits (now log) 4 top ⌝ }
     ensures { λ r. ⌜ Did (Top top) 4 (dropEnd (wordOf w0) (wordOf w)) cells log go r tt ⌝ }
 {
     let c = (w0 / cells::SYMB % 65536) as u16;
@@ -62,7 +62,7 @@ fn drop_end(cells: &mut [u64], log: &mut [u64], go: u32, top: u16, w0: u64, w: u
 }
 
 fn move_on(cells: &mut [u64], log: &mut [u64], go: u32, top: u16, c: u16) -> u32
-    requires { ⌜ Room (now log) 2 ⌝ }
+    requires { ⌜ Suits (now log) 2 top ⌝ }
     ensures { λ r. ⌜ Did (Top top) 2 (moveOn c) cells log go r tt ⌝ }
 {
     let x = acts::name_of(top, c);
@@ -71,7 +71,7 @@ fn move_on(cells: &mut [u64], log: &mut [u64], go: u32, top: u16, c: u16) -> u32
 }
 
 fn next_cell(cells: &mut [u64], log: &mut [u64], go: u32, top: u16, w0: u64, w: u64) -> u32
-    requires { ⌜ Room (now log) 4 ⌝ }
+    requires { ⌜ Suits (now log) 4 top ⌝ }
     ensures { λ r. ⌜ Did (Top top) 4 (nextCell (wordOf w0) (wordOf w)) cells log go r tt ⌝ }
 {
     let l = (w % 65536) as u16;
@@ -87,7 +87,7 @@ fn next_cell(cells: &mut [u64], log: &mut [u64], go: u32, top: u16, w0: u64, w: 
 
 // "J60 next cell replaces (0), H5 plus": (0) is popped, and the output pushed.
 fn j60(cells: &mut [u64], log: &mut [u64], go: u32, top: u16) -> u32
-    requires { ⌜ Room (now log) 4 ⌝ }
+    requires { ⌜ Suits (now log) 4 top ⌝ }
     ensures { λ r. ⌜ Did (Top top) 4 J60 cells log go r tt ⌝ }
 {
     let w0 = acts::own(cells, limits::H0);
@@ -101,7 +101,7 @@ fn j60(cells: &mut [u64], log: &mut [u64], go: u32, top: u16) -> u32
 
 // "J63 insert (0) before the symbol in (1): preserve cell (1), store (0) there"
 fn j63(cells: &mut [u64], log: &mut [u64], go: u32, top: u16) -> u32
-    requires { ⌜ Room (now log) 5 ⌝ }
+    requires { ⌜ Suits (now log) 5 top ⌝ }
     ensures { λ r. ⌜ Did (Top top) 5 J63 cells log go r tt ⌝ }
 {
     let w0 = acts::own(cells, limits::H0);
@@ -114,7 +114,7 @@ fn j63(cells: &mut [u64], log: &mut [u64], go: u32, top: u16) -> u32
 
 // "J64 after it, in a new cell with P 0", whatever the next cell is.
 fn j64(cells: &mut [u64], log: &mut [u64], go: u32, top: u16) -> u32
-    requires { ⌜ Room (now log) 4 ⌝ }
+    requires { ⌜ Suits (now log) 4 top ⌝ }
     ensures { λ r. ⌜ Did (Top top) 4 J64 cells log go r tt ⌝ }
 {
     let w0 = acts::own(cells, limits::H0);
@@ -131,7 +131,7 @@ fn j64(cells: &mut [u64], log: &mut [u64], go: u32, top: u16) -> u32
 
 // "a last cell becomes empty, H5 minus": one with LINK 0.
 fn delete_last(cells: &mut [u64], log: &mut [u64], go: u32, top: u16, c: u16) -> u32
-    requires { ⌜ Room (now log) 2 ⌝ }
+    requires { ⌜ Suits (now log) 2 top ⌝ }
     ensures { λ r. ⌜ Did (Top top) 2 (deleteLast c) cells log go r tt ⌝ }
 {
     undo::put(cells, log, go, c, cells::of_word(cells::EMPTY));
@@ -140,7 +140,7 @@ fn delete_last(cells: &mut [u64], log: &mut [u64], go: u32, top: u16, c: u16) ->
 
 // "the next cell is copied in and freed; H5 plus"
 fn delete_next(cells: &mut [u64], log: &mut [u64], go: u32, top: u16, c: u16, below: u16) -> u32
-    requires { ⌜ Room (now log) 3 ⌝ }
+    requires { ⌜ Suits (now log) 3 top ⌝ }
     ensures { λ r. ⌜ Did (Top top) 3 (deleteNext c below) cells log go r tt ⌝ }
 {
     let go = acts::pull_up(cells, log, go, top, c, below);
@@ -149,7 +149,7 @@ fn delete_next(cells: &mut [u64], log: &mut [u64], go: u32, top: u16, c: u16, be
 
 // "J68 delete the symbol in (0)"
 fn j68(cells: &mut [u64], log: &mut [u64], go: u32, top: u16) -> u32
-    requires { ⌜ Room (now log) 3 ⌝ }
+    requires { ⌜ Suits (now log) 3 top ⌝ }
     ensures { λ r. ⌜ Did (Top top) 3 J68 cells log go r tt ⌝ }
 {
     let w0 = acts::own(cells, limits::H0);

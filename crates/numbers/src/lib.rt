@@ -6,7 +6,7 @@ ghost use Rattle.paper.specs.Cell.{integer};
 ghost use Rattle.paper.specs.Process.{putTerm, combines, compares, compares0, J120, changes, J124, perform, then as andThen, goesOn};
 ghost use Rattle.cells.specs.Layout.{valueOf};
 ghost use Rattle.undo.specs.Log.{Room};
-ghost use Rattle.undo.specs.Did.{Always, Top, Did};
+ghost use Rattle.undo.specs.Did.{Suits, Always, Top, Did};
 ghost use Rattle.numbers.specs.Family.{operationOf, changeOf, relationOf, wideOf};
 use paper::limits;
 
@@ -26,7 +26,7 @@ enum Relation {
 
 // J110 to J129, of which those named are listed.
 pub fn on_numbers(cells: &mut [u64], log: &mut [u64], go: u32, top: u16, j: u16) -> u32
-    requires { ⌜ Room (now log) 5 × (110 ≤ j) × (j ≤ 129) ⌝ }
+    requires { ⌜ Suits (now log) 5 top × (110 ≤ j) × (j ≤ 129) ⌝ }
     ensures { λ r. ⌜ Did (Top top) 5 (perform j) cells log go r (andThen goesOn) ⌝ }
 {
     match j {
@@ -94,7 +94,7 @@ fn put_term(cells: &mut [u64], log: &mut [u64], go: u32, c: u16, x: u64) -> u32
 
 // J110, and J111 where `minus` holds. "Cells that inputs name are met in the order (0), (1), (2)."
 fn combines(cells: &mut [u64], log: &mut [u64], go: u32, top: u16, minus: bool) -> u32
-    requires { ⌜ Room (now log) 5 ⌝ }
+    requires { ⌜ Suits (now log) 5 top ⌝ }
     ensures { λ r. ⌜ Did (Top top) 5 (combines (operationOf minus)) cells log go r tt ⌝ }
 {
     let w0 = acts::own(cells, limits::H0);
@@ -111,7 +111,7 @@ fn combines(cells: &mut [u64], log: &mut [u64], go: u32, top: u16, minus: bool) 
 
 // J114, J115, J116.
 fn compares(cells: &mut [u64], log: &mut [u64], go: u32, top: u16, k: Relation) -> u32
-    requires { ⌜ Room (now log) 2 ⌝ }
+    requires { ⌜ Suits (now log) 2 top ⌝ }
     ensures { λ r. ⌜ Did (Top top) 2 (compares (relationOf k)) cells log go r tt ⌝ }
 {
     let w0 = acts::own(cells, limits::H0);
@@ -123,7 +123,7 @@ fn compares(cells: &mut [u64], log: &mut [u64], go: u32, top: u16, k: Relation) 
 
 // J117, J118, J119.
 fn compares0(cells: &mut [u64], log: &mut [u64], go: u32, top: u16, k: Relation) -> u32
-    requires { ⌜ Room (now log) 1 ⌝ }
+    requires { ⌜ Suits (now log) 1 top ⌝ }
     ensures { λ r. ⌜ Did (Top top) 1 (compares0 (relationOf k)) cells log go r tt ⌝ }
 {
     let w0 = acts::own(cells, limits::H0);
@@ -133,7 +133,7 @@ fn compares0(cells: &mut [u64], log: &mut [u64], go: u32, top: u16, k: Relation)
 
 // "copy integer, named as J74 names"
 fn j120(cells: &mut [u64], log: &mut [u64], go: u32, top: u16) -> u32
-    requires { ⌜ Room (now log) 3 ⌝ }
+    requires { ⌜ Suits (now log) 3 top ⌝ }
     ensures { λ r. ⌜ Did (Top top) 3 J120 cells log go r tt ⌝ }
 {
     let w0 = acts::own(cells, limits::H0);
@@ -144,7 +144,7 @@ fn j120(cells: &mut [u64], log: &mut [u64], go: u32, top: u16) -> u32
 
 // J125, and J123 where `negate` holds.
 fn changes(cells: &mut [u64], log: &mut [u64], go: u32, top: u16, negate: bool) -> u32
-    requires { ⌜ Room (now log) 3 ⌝ }
+    requires { ⌜ Suits (now log) 3 top ⌝ }
     ensures { λ r. ⌜ Did (Top top) 3 (changes (changeOf negate)) cells log go r tt ⌝ }
 {
     let w0 = acts::own(cells, limits::H0);
@@ -156,7 +156,7 @@ fn changes(cells: &mut [u64], log: &mut [u64], go: u32, top: u16, negate: bool) 
 
 // "clear a word or integer to integer 0"; no H or W cell is cleared.
 fn j124(cells: &mut [u64], log: &mut [u64], go: u32, top: u16) -> u32
-    requires { ⌜ Room (now log) 3 ⌝ }
+    requires { ⌜ Suits (now log) 3 top ⌝ }
     ensures { λ r. ⌜ Did (Top top) 3 J124 cells log go r tt ⌝ }
 {
     let w0 = acts::own(cells, limits::H0);

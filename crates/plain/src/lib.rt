@@ -9,7 +9,7 @@ ghost use Rattle.paper.specs.Plain.{preserveH0, walked};
 ghost use Rattle.paper.specs.Process.{J72, J74};
 ghost use Rattle.undo.specs.Verdict.{told};
 ghost use Rattle.undo.specs.Log.{Room};
-ghost use Rattle.undo.specs.Did.{Top, Did};
+ghost use Rattle.undo.specs.Did.{Suits, Top, Did};
 ghost use Rattle.structures.specs.Walks.{Clean};
 ghost use Rattle.plain.specs.Numbers.{numbers, plainOn, settledAs, actionOf};
 ghost use Rattle.plain.specs.Walks.{padded, metOf, walkOn};
@@ -51,7 +51,7 @@ fn act(
     what: Action,
     top: u16,
 ) -> u32
-    requires { ⌜ Clean (now cells) (now order) (now marks) × Room (now log) (2 * length (now cells) + 2) ⌝ }
+    requires { ⌜ Clean (now cells) (now order) (now marks) × Suits (now log) (2 * length (now cells) + 2) top ⌝ }
     ensures { λ r. ⌜ Did (Top top) (2 * length (now (cells .entry)) + 2) (actionOf what) cells log 0 r tt ⌝ }
 {
     match what {

@@ -5,14 +5,14 @@ ghost use mathlib.Core.Logic.{_≢_};
 ghost use Rattle.paper.specs.Process.{J2, J5, J6, J9, moveTo, J2n, J3n, J4n, J5n, testsTag, J131, retags};
 ghost use Rattle.paper.specs.Process.{perform, then as andThen, goesOn};
 ghost use Rattle.undo.specs.Log.{Room};
-ghost use Rattle.undo.specs.Did.{Always, Top, Did};
+ghost use Rattle.undo.specs.Did.{Suits, Always, Top, Did};
 ghost use Rattle.stacks.specs.Tagged.{tagged};
 use paper::Symbol;
 use paper::limits;
 
 // J0 to J59 but J1. Those named are listed.
 pub fn on_stacks(cells: &mut [u64], log: &mut [u64], go: u32, top: u16, j: u16) -> u32
-    requires { ⌜ Room (now log) 40 × (j ≤ 59) × (j ≢ 1) ⌝ }
+    requires { ⌜ Suits (now log) 40 top × (j ≤ 59) × (j ≢ 1) ⌝ }
     ensures { λ r. ⌜ Did (Top top) 40 (perform j) cells log go r (andThen goesOn) ⌝ }
 {
     match j {
@@ -43,7 +43,7 @@ pub fn on_stacks(cells: &mut [u64], log: &mut [u64], go: u32, top: u16, j: u16) 
 
 // J130 to J151. Those named are listed.
 pub fn on_tags(cells: &mut [u64], log: &mut [u64], go: u32, top: u16, j: u16) -> u32
-    requires { ⌜ Room (now log) 2 × (130 ≤ j) × (j ≤ 151) ⌝ }
+    requires { ⌜ Suits (now log) 2 top × (130 ≤ j) × (j ≤ 151) ⌝ }
     ensures { λ r. ⌜ Did (Top top) 2 (perform j) cells log go r (andThen goesOn) ⌝ }
 {
     match j {
@@ -59,7 +59,7 @@ pub fn on_tags(cells: &mut [u64], log: &mut [u64], go: u32, top: u16, j: u16) ->
 
 // "J2 H5 plus if (0)=(1) by number."
 fn j2(cells: &mut [u64], log: &mut [u64], go: u32, top: u16) -> u32
-    requires { ⌜ Room (now log) 2 ⌝ }
+    requires { ⌜ Suits (now log) 2 top ⌝ }
     ensures { λ r. ⌜ Did (Top top) 2 J2 cells log go r tt ⌝ }
 {
     let w0 = acts::own(cells, limits::H0);
@@ -90,7 +90,7 @@ fn j5(cells: &mut [u64], log: &mut [u64], go: u32)
 
 // "J6 swap: pushes the old (0), then the old (1)." The second pop and the first push are one.
 fn j6(cells: &mut [u64], log: &mut [u64], go: u32, top: u16) -> u32
-    requires { ⌜ Room (now log) 4 ⌝ }
+    requires { ⌜ Suits (now log) 4 top ⌝ }
     ensures { λ r. ⌜ Did (Top top) 4 J6 cells log go r tt ⌝ }
 {
     let w0 = acts::own(cells, limits::H0);
@@ -103,7 +103,7 @@ fn j6(cells: &mut [u64], log: &mut [u64], go: u32, top: u16) -> u32
 
 // "J9 free cell (0)."
 fn j9(cells: &mut [u64], log: &mut [u64], go: u32, top: u16) -> u32
-    requires { ⌜ Room (now log) 2 ⌝ }
+    requires { ⌜ Suits (now log) 2 top ⌝ }
     ensures { λ r. ⌜ Did (Top top) 2 J9 cells log go r tt ⌝ }
 {
     let w0 = acts::own(cells, limits::H0);
@@ -116,7 +116,7 @@ fn j9(cells: &mut [u64], log: &mut [u64], go: u32, top: u16) -> u32
 }
 
 fn move_to(cells: &mut [u64], log: &mut [u64], go: u32, top: u16, w: u16) -> u32
-    requires { ⌜ Room (now log) 2 ⌝ }
+    requires { ⌜ Suits (now log) 2 top ⌝ }
     ensures { λ r. ⌜ Did (Top top) 2 (moveTo w) cells log go r tt ⌝ }
 {
     let w0 = acts::own(cells, limits::H0);
@@ -126,7 +126,7 @@ fn move_to(cells: &mut [u64], log: &mut [u64], go: u32, top: u16, w: u16) -> u32
 
 // "J2n move (0)..(n) to W0..Wn, one after another, each popped when moved"
 fn j2n(cells: &mut [u64], log: &mut [u64], go: u32, top: u16, n: u16) -> u32
-    requires { ⌜ (n ≤ 9) × Room (now log) 20 ⌝ }
+    requires { ⌜ (n ≤ 9) × Suits (now log) 20 top ⌝ }
     ensures { λ r. ⌜ Did (Top top) 20 (J2n n) cells log go r tt ⌝ }
 {
     let mut go = go;
@@ -138,7 +138,7 @@ fn j2n(cells: &mut [u64], log: &mut [u64], go: u32, top: u16, n: u16) -> u32
 
 // "J3n restore W0..Wn"
 fn j3n(cells: &mut [u64], log: &mut [u64], go: u32, top: u16, n: u16) -> u32
-    requires { ⌜ (n ≤ 9) × Room (now log) 20 ⌝ }
+    requires { ⌜ (n ≤ 9) × Suits (now log) 20 top ⌝ }
     ensures { λ r. ⌜ Did (Top top) 20 (J3n n) cells log go r tt ⌝ }
 {
     let mut go = go;
@@ -162,7 +162,7 @@ fn j4n(cells: &mut [u64], log: &mut [u64], go: u32, n: u16) -> u32
 
 // "J5n is J4n then J2n"
 fn j5n(cells: &mut [u64], log: &mut [u64], go: u32, top: u16, n: u16) -> u32
-    requires { ⌜ (n ≤ 9) × Room (now log) 40 ⌝ }
+    requires { ⌜ (n ≤ 9) × Suits (now log) 40 top ⌝ }
     ensures { λ r. ⌜ Did (Top top) 40 (J5n n) cells log go r tt ⌝ }
 {
     let go = j4n(cells, log, go, n);
@@ -171,7 +171,7 @@ fn j5n(cells: &mut [u64], log: &mut [u64], go: u32, top: u16, n: u16) -> u32
 
 // J130, J132, J134: (0) has this tag.
 fn tests_tag(cells: &mut [u64], log: &mut [u64], go: u32, top: u16, tag: u8) -> u32
-    requires { ⌜ Room (now log) 1 ⌝ }
+    requires { ⌜ Suits (now log) 1 top ⌝ }
     ensures { λ r. ⌜ Did (Top top) 1 (testsTag tag) cells log go r tt ⌝ }
 {
     let w0 = acts::own(cells, limits::H0);
@@ -180,7 +180,7 @@ fn tests_tag(cells: &mut [u64], log: &mut [u64], go: u32, top: u16, tag: u8) -> 
 
 // J131: (0) names a data term.
 fn j131(cells: &mut [u64], log: &mut [u64], go: u32, top: u16) -> u32
-    requires { ⌜ Room (now log) 1 ⌝ }
+    requires { ⌜ Suits (now log) 1 top ⌝ }
     ensures { λ r. ⌜ Did (Top top) 1 J131 cells log go r tt ⌝ }
 {
     let w0 = acts::own(cells, limits::H0);
@@ -192,7 +192,7 @@ fn j131(cells: &mut [u64], log: &mut [u64], go: u32, top: u16) -> u32
 
 // J136, J138: (0) gets this tag.
 fn retags(cells: &mut [u64], log: &mut [u64], go: u32, top: u16, tag: u8) -> u32
-    requires { ⌜ Room (now log) 2 ⌝ }
+    requires { ⌜ Suits (now log) 2 top ⌝ }
     ensures { λ r. ⌜ Did (Top top) 2 (retags (tagged tag)) cells log go r tt ⌝ }
 {
     let w0 = acts::own(cells, limits::H0);

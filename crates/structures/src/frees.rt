@@ -6,7 +6,7 @@ ghost use lib.ListN.{length, take};
 ghost use Rattle.paper.specs.Limits.{smallestN, largestN};
 ghost use Rattle.paper.specs.Walk.{noneReserved, releaseAll, eraseBack, erase};
 ghost use Rattle.undo.specs.Log.{Room};
-ghost use Rattle.undo.specs.Did.{Always, Top, Did};
+ghost use Rattle.undo.specs.Did.{Suits, Always, Top, Did};
 ghost use Rattle.structures.specs.Marks.{back};
 ghost use Rattle.structures.specs.Walks.{Clean, Gets};
 use crate::Marks;
@@ -58,7 +58,7 @@ pub fn erase_back(
     go: u32,
     top: u16,
 ) -> u32
-    requires { ⌜ (n ≤ largestN) × (length (now order) ≡ largestN) × (smallestN ≤ length (now cells)) × Room (now log) n ⌝ }
+    requires { ⌜ (n ≤ largestN) × (length (now order) ≡ largestN) × (smallestN ≤ length (now cells)) × Suits (now log) n top ⌝ }
     ensures { λ r. ⌜ Did (Top top) n (eraseBack (back n (now (order .entry)))) cells log go r tt ⌝ }
 {
     let go = none_reserved(order, n, go, top);
@@ -76,7 +76,7 @@ pub fn erase(
     top: u16,
     c: u16,
 ) -> u32
-    requires { ⌜ Clean (now cells) (now order) (now marks) × Room (now log) (length (now cells)) ⌝ }
+    requires { ⌜ Clean (now cells) (now order) (now marks) × Suits (now log) (length (now cells)) top ⌝ }
     ensures { λ r. ⌜ Did (Top top) (length (now (cells .entry))) (erase c) cells log go r tt ⌝ }
     ensures { λ _. ⌜ Clean (now (cells .exit)) (now (order .exit)) (now (marks .exit)) ⌝ }
 {

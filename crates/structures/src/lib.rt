@@ -3,8 +3,7 @@
 ghost use Prim.Native.Nat.{_+_, _*_, _≤_};
 ghost use lib.ListN.{length};
 ghost use Rattle.paper.specs.Process.{J71, J72, J74, perform, then as andThen, goesOn};
-ghost use Rattle.undo.specs.Log.{Room};
-ghost use Rattle.undo.specs.Did.{Top, Did};
+ghost use Rattle.undo.specs.Did.{Suits, Top, Did};
 ghost use Rattle.structures.specs.Walks.{Clean};
 
 mod chains;
@@ -37,7 +36,7 @@ pub fn on_structures(
     top: u16,
     j: u16,
 ) -> u32
-    requires { ⌜ Clean (now cells) (now order) (now marks) × Room (now log) (2 * length (now cells) + 2) × (71 ≤ j) × (j ≤ 74) ⌝ }
+    requires { ⌜ Clean (now cells) (now order) (now marks) × Suits (now log) (2 * length (now cells) + 2) top × (71 ≤ j) × (j ≤ 74) ⌝ }
     ensures { λ r. ⌜ Did (Top top) (2 * length (now (cells .entry)) + 2) (perform j) cells log go r (andThen goesOn) ⌝ }
     ensures { λ _. ⌜ Clean (now (cells .exit)) (now (order .exit)) (now (marks .exit)) ⌝ }
 {
@@ -58,7 +57,7 @@ fn j71(
     go: u32,
     top: u16,
 ) -> u32
-    requires { ⌜ Clean (now cells) (now order) (now marks) × Room (now log) (length (now cells) + 1) ⌝ }
+    requires { ⌜ Clean (now cells) (now order) (now marks) × Suits (now log) (length (now cells) + 1) top ⌝ }
     ensures { λ r. ⌜ Did (Top top) (length (now (cells .entry)) + 1) J71 cells log go r tt ⌝ }
     ensures { λ _. ⌜ Clean (now (cells .exit)) (now (order .exit)) (now (marks .exit)) ⌝ }
 {
@@ -77,7 +76,7 @@ pub fn j72(
     go: u32,
     top: u16,
 ) -> u32
-    requires { ⌜ Clean (now cells) (now order) (now marks) × Room (now log) (length (now cells) + 1) ⌝ }
+    requires { ⌜ Clean (now cells) (now order) (now marks) × Suits (now log) (length (now cells) + 1) top ⌝ }
     ensures { λ r. ⌜ Did (Top top) (length (now (cells .entry)) + 1) J72 cells log go r tt ⌝ }
     ensures { λ _. ⌜ Clean (now (cells .exit)) (now (order .exit)) (now (marks .exit)) ⌝ }
 {
@@ -103,7 +102,7 @@ pub fn j74(
     go: u32,
     top: u16,
 ) -> u32
-    requires { ⌜ Clean (now cells) (now order) (now marks) × Room (now log) (2 * length (now cells) + 2) ⌝ }
+    requires { ⌜ Clean (now cells) (now order) (now marks) × Suits (now log) (2 * length (now cells) + 2) top ⌝ }
     ensures { λ r. ⌜ Did (Top top) (2 * length (now (cells .entry)) + 2) J74 cells log go r tt ⌝ }
     ensures { λ _. ⌜ Clean (now (cells .exit)) (now (order .exit)) (now (marks .exit)) ⌝ }
 {

@@ -17,7 +17,7 @@ use Rattle.cells.specs.Pack.{AllFormed}
 use Rattle.cells.specs.Bridge.{Rest, stateOf}
 use Rattle.steps.specs.Follows.{World, Follows, testing}
 use Rattle.steps.specs.Follows as steps
-use Rattle.undo.specs.Log.{used, rewindOf}
+use Rattle.undo.specs.Log.{used, rewindOf, Fits}
 use Rattle.undo.specs.Verdict.{told}
 
 -- nothing is known of the rest; the regions end at `top`
@@ -26,6 +26,11 @@ Always e = Unit {0}
 
 abbrev pub Top : ℕ → Rest → Type 0
 Top top e = endOfRegions (e .regions) firstDeck ≡ top
+
+-- room for k more writes, and `top` is where regions can end: a contract over `Top top` speaks of some state (Leaves.some-end)
+pub record Suits (l : List ℕ) (k top : ℕ) : Type 0 where
+  pub fits : Fits l k
+  pub ends : firstDeck ≤ top
 
 -- `reserved` and `nameOf` where the regions end at `top`
 abbrev pub reservedBy : ℕ → ℕ → Bool

@@ -16,7 +16,7 @@ tests1-requires : tie.Need-tests1-requires
 tests1-requires c κs =
     let c₁ = c .before .before .before .before .before .before in
     let c₂ = c₁ .before .before .before .before .before .before in
-    record { fits = omega (arith, writes-most (c₂ .args .c), (c₁ .put .ensures .kept .count)) }
+    record { fits = omega (arith, writes-most (c₂ .args .c), (c₁ .put .ensures .kept .count)); ends = omega arith }
 
 returns : tie.Need-returns
 unfolding deleteLast

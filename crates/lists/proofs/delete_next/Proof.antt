@@ -10,13 +10,13 @@ use Rattle.lists.proofs.delete_next.Tie as tie
 pull-up-requires : tie.Need-pull-up-requires
 pull-up-requires c κs =
     let c₁ = c .before .before .before .before in
-    record { fits = omega (arith, writes-most (c₁ .args .c)) }
+    record { fits = omega (arith, writes-most (c₁ .args .c)); ends = omega arith }
 
 tests1-requires : tie.Need-tests1-requires
 tests1-requires c κs =
     let c₁ = c .before .before .before .before .before .before in
     let c₂ = c₁ .before .before .before .before .before in
-    record { fits = omega (arith, writes-most (c₂ .args .c), (c₁ .pull-up .ensures .kept .count)) }
+    record { fits = omega (arith, writes-most (c₂ .args .c), (c₁ .pull-up .ensures .kept .count)); ends = omega arith }
 
 returns : tie.Need-returns
 unfolding deleteNext

@@ -20,7 +20,7 @@ gives3-requires c κs =
     let c₁ = c .before .before .before .before .before .before .before in
     let c₂ = c₁ .before .before .before .before .before .before .before .before .before .before .before .before .before .before in
     let c₃ = c₂ .before .before .before .before .before .before in
-    record { fits = omega (arith, c₃ .pre .fits, c₁ .put-term .ensures .kept .count) }
+    record { fits = omega (arith, c₃ .pre .fits, c₁ .put-term .ensures .kept .count); ends = c₃ .pre .ends }
 
 returns : tie.Need-returns
 unfolding combines

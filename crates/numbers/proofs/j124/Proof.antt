@@ -19,7 +19,7 @@ gives1-requires : tie.Need-gives1-requires
 gives1-requires c κs =
     let c₁ = c .before .before .before .before .before .before .before in
     let c₂ = c₁ .before .before .before .before .before .before .before .before .before .before in
-    record { fits = omega (arith, writes-most ((c₂ .own .result) / 65536 % 65536), (c₁ .put .ensures .kept .count)) }
+    record { fits = omega (arith, writes-most ((c₂ .own .result) / 65536 % 65536), (c₁ .put .ensures .kept .count)); ends = omega arith }
 
 returns : tie.Need-returns
 unfolding J124

@@ -18,7 +18,7 @@ pop-requires : tie.Need-pop-requires
 pop-requires c κs =
     let c₁ = c .before .before .before .before .before .before in
     let c₂ = c₁ .before .before .before .before .before .before .before .before in
-    record { fits = omega (arith, writes-most (c₂ .args .w), (c₁ .own-store .ensures .kept .count)) }
+    record { fits = omega (arith, writes-most (c₂ .args .w), (c₁ .own-store .ensures .kept .count)); ends = omega arith }
 
 returns : tie.Need-returns
 unfolding moveTo
