@@ -2,7 +2,7 @@
 ghost use Prim.Native.Nat.{_≤_};
 ghost use Rattle.paper.specs.Cycle.{goesOn, moved, descend, copyTo, putIn, goTo, branch, operate, toLink, advance, linkOf, ascend};
 ghost use Rattle.undo.specs.Log.{Room};
-ghost use Rattle.undo.specs.Did.{Suits, Always, Top, Reads, Did};
+ghost use Rattle.undo.specs.Did.{Always, Top, Suits, Reads, Did};
 ghost use Rattle.cycle.specs.Moves.{controlOf};
 use acts::GotCell;
 use paper::Symbol;

@@ -9,7 +9,7 @@ ghost use Rattle.paper.specs.Cell.{J, Region};
 ghost use Rattle.paper.specs.Process.{then as andThen, goesOn, perform};
 ghost use Rattle.paper.specs.Cycle.{executes, operate, interpret};
 ghost use Rattle.undo.specs.Log.{Room};
-ghost use Rattle.undo.specs.Did.{Suits, Top, Did};
+ghost use Rattle.undo.specs.Did.{Top, Suits, Did};
 ghost use Rattle.regions.specs.Lent.{Tells};
 ghost use Rattle.structures.specs.Walks.{Clean};
 ghost use Rattle.cycle.specs.Moves.{controlOf};

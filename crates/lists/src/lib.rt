@@ -8,7 +8,7 @@ ghost use Rattle.paper.specs.Process.{isEnd, atEnd, dropEnd, moveOn, nextCell, 
 ghost use Rattle.paper.specs.Process.{perform, then as andThen, goesOn};
 ghost use Rattle.cells.specs.Layout.{wordOf};
 ghost use Rattle.undo.specs.Log.{Room};
-ghost use Rattle.undo.specs.Did.{Suits, Always, Top, reservedBy, Did};
+ghost use Rattle.undo.specs.Did.{Always, Top, Suits, reservedBy, Did};
 use paper::Symbol;
 use paper::limits;
 

@@ -6,7 +6,7 @@ ghost use Rattle.paper.specs.Cell.{integer};
 ghost use Rattle.paper.specs.Process.{putTerm, combines, compares, compares0, J120, changes, J124, perform, then as andThen, goesOn};
 ghost use Rattle.cells.specs.Layout.{valueOf};
 ghost use Rattle.undo.specs.Log.{Room};
-ghost use Rattle.undo.specs.Did.{Suits, Always, Top, Did};
+ghost use Rattle.undo.specs.Did.{Always, Top, Suits, Did};
 ghost use Rattle.numbers.specs.Family.{operationOf, changeOf, relationOf, wideOf};
 use paper::limits;
 

@@ -9,7 +9,7 @@ ghost use Rattle.paper.specs.Plain.{preserveH0, walked};
 ghost use Rattle.paper.specs.Process.{J72, J74};
 ghost use Rattle.undo.specs.Verdict.{told};
 ghost use Rattle.undo.specs.Log.{Room};
-ghost use Rattle.undo.specs.Did.{Suits, Top, Did};
+ghost use Rattle.undo.specs.Did.{Top, Suits, Did};
 ghost use Rattle.structures.specs.Walks.{Clean};
 ghost use Rattle.plain.specs.Numbers.{numbers, plainOn, settledAs, actionOf};
 ghost use Rattle.plain.specs.Walks.{padded, metOf, walkOn};

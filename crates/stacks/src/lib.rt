@@ -5,7 +5,7 @@ ghost use mathlib.Core.Logic.{_≢_};
 ghost use Rattle.paper.specs.Process.{J2, J5, J6, J9, moveTo, J2n, J3n, J4n, J5n, testsTag, J131, retags};
 ghost use Rattle.paper.specs.Process.{perform, then as andThen, goesOn};
 ghost use Rattle.undo.specs.Log.{Room};
-ghost use Rattle.undo.specs.Did.{Suits, Always, Top, Did};
+ghost use Rattle.undo.specs.Did.{Always, Top, Suits, Did};
 ghost use Rattle.stacks.specs.Tagged.{tagged};
 use paper::Symbol;
 use paper::limits;

@@ -3,10 +3,10 @@ ghost use mathlib.Core.Path.{_≡_};
 ghost use mathlib.Core.List.{List};
 ghost use Prim.Native.Nat.{ℕ, _≤_};
 ghost use lib.ListN.{length, take};
-ghost use Rattle.paper.specs.Limits.{smallestN, largestN};
+ghost use Rattle.paper.specs.Limits.{smallestN, largestN, firstDeck};
 ghost use Rattle.paper.specs.Walk.{noneReserved, releaseAll, eraseBack, erase};
 ghost use Rattle.undo.specs.Log.{Room};
-ghost use Rattle.undo.specs.Did.{Suits, Always, Top, Did};
+ghost use Rattle.undo.specs.Did.{Always, Top, Suits, Did};
 ghost use Rattle.structures.specs.Marks.{back};
 ghost use Rattle.structures.specs.Walks.{Clean, Gets};
 use crate::Marks;
@@ -16,7 +16,7 @@ use paper::limits;
 
 // 24 at the first reserved cell among the first n of the order.
 fn none_reserved(order: &Order, n: usize, go: u32, top: u16) -> u32
-    requires { ⌜ (n ≤ largestN) × (length (now order) ≡ largestN) ⌝ }
+    requires { ⌜ (n ≤ largestN) × (length (now order) ≡ largestN) × (firstDeck ≤ top) ⌝ }
     ensures { λ r. ⌜ ((s : List ℕ) → Gets (Top top) (noneReserved (take n (now (order .entry)))) s go r tt) ⌝ }
 {
     let mut go = go;

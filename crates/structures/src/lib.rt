@@ -3,7 +3,7 @@
 ghost use Prim.Native.Nat.{_+_, _*_, _≤_};
 ghost use lib.ListN.{length};
 ghost use Rattle.paper.specs.Process.{J71, J72, J74, perform, then as andThen, goesOn};
-ghost use Rattle.undo.specs.Did.{Suits, Top, Did};
+ghost use Rattle.undo.specs.Did.{Top, Suits, Did};
 ghost use Rattle.structures.specs.Walks.{Clean};
 
 mod chains;
