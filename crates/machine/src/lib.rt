@@ -90,7 +90,7 @@ pub fn run(cells: &mut [u64], regions: Regions, budget: u32, out: &mut [u8]) -> 
             let table = regions.table();
             let mut log = [0u64; LOG];
             let mut order = [0u16; limits::LARGEST_N];
-            let mut marks = [0u16; limits::LARGEST_N];
+            let mut marks = [0u16; structures::MANY_NUMBERS];
             cycles(cells, &mut log, &mut order, &mut marks, &table, budget, out)
         }
     }

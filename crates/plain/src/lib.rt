@@ -70,7 +70,7 @@ fn plainly(cells: &mut [u64], regions: Regions, what: Action) -> RunAnswer
         Asked::Top(top) => {
             let mut log = [0u64; LOG];
             let mut order = [0u16; limits::LARGEST_N];
-            let mut marks = [0u16; limits::LARGEST_N];
+            let mut marks = [0u16; structures::MANY_NUMBERS];
             undo::begin(cells, &mut log);
             let go = act(cells, &mut log, &mut order, &mut marks, what, top);
             settle(cells, &log, go)
@@ -139,7 +139,7 @@ pub fn walk(cells: &[u64], regions: Regions, x: Symbol) -> Met
         Asked::Not(a) => none_met(a),
         Asked::Top(_) => {
             let mut order = [0u16; limits::LARGEST_N];
-            let mut marks = [0u16; limits::LARGEST_N];
+            let mut marks = [0u16; structures::MANY_NUMBERS];
             let w = structures::walk(cells, &mut order, &mut marks, 0, x.num);
             if w.go != 0 {
                 return none_met(RunAnswer::Refused(undo::refusal(w.go)));

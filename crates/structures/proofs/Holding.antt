@@ -15,7 +15,7 @@ use Rattle.paper.specs.Act.{Act}
 use Rattle.cells.specs.Bridge.{cellIn}
 use Rattle.structures.specs.declared.Walked.{Walked}
 use Rattle.undo.specs.Did.{Always}
-use Rattle.structures.specs.Marks.{back, blank, Marked, Only, Clears, unmet, Ordered}
+use Rattle.structures.specs.Marks.{back, manyNumbers, blank, Marked, Only, Clears, unmet, Ordered}
 use Rattle.structures.specs.Walks.{Gets, Clean, Holds, Left, Ends, Lists}
 use Rattle.structures.proofs.Marks.{back-set, marked-none, marked-more, not-met, marked-only, unmet-mark, unmet-blank}
 use Rattle.structures.proofs.Leads.{done-not}
@@ -74,8 +74,8 @@ holds-as {s} {order} {marks} {order′} {marks′} {n} p q h = subst (λ o. Hold
 pub ordered-none : {s order : List ℕ} → length order ≡ largestN → Ordered s order 0
 ordered-none h = record { sized = h; inside = λ k l. absurd (omega arith); in-use = λ k l. absurd (omega arith); once = tt }
 
-pub blank-wide : {marks : List ℕ} → marks ≡ blank → length marks ≡ largestN
-blank-wide m = ap length m ∙ length-replicate {A = ℕ} largestN 0
+pub blank-wide : {marks : List ℕ} → marks ≡ blank → length marks ≡ manyNumbers
+blank-wide m = ap length m ∙ length-replicate {A = ℕ} manyNumbers 0
 
 pub only-blank : {marks : List ℕ} → marks ≡ blank → Only marks []
 only-blank m = subst (λ t. Only t []) (sym m) (marked-only marked-none)

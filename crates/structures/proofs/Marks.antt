@@ -11,7 +11,7 @@ use lib.Dec.{eqb, ltb}
 use borrow.Author.Tests.{eqb-true, eqb-false, ltb-true, ltb-false, not-false}
 use Rattle.paper.specs.Limits.{largestN}
 use Rattle.paper.specs.Walk.{member}
-use Rattle.structures.specs.Marks.{back, blank, Marked, Only, unmet}
+use Rattle.structures.specs.Marks.{back, manyNumbers, blank, Marked, Only, unmet}
 
 -- one cell more
 pub back-more : (order : List ℕ) (n : ℕ) → n < length order → back (n + 1) order ≡ getD order n 0 ∷ back n order
@@ -29,11 +29,11 @@ back-set order n c h =
     ap (λ (k : ℕ). back k (set order n c)) (add-one n) ∙ ap reverse (take-suc-set order n c h) ∙ reverse-append (take n order) (c ∷ [])
 
 blank-at : (c : ℕ) → getD blank c 0 ≡ 0
-blank-at c = go (ltb c largestN) refl
+blank-at c = go (ltb c manyNumbers) refl
   where
-    go : (b : Bool) → ltb c largestN ≡ b → getD blank c 0 ≡ 0
-    go true e = getD-replicate {A = ℕ} largestN c 0 0 (ltb-true c largestN e)
-    go false e = List·getD-eq-default blank 0 {n = c} (rw (length-replicate {A = ℕ} largestN 0) (ltb-false c largestN e))
+    go : (b : Bool) → ltb c manyNumbers ≡ b → getD blank c 0 ≡ 0
+    go true e = getD-replicate {A = ℕ} manyNumbers c 0 0 (ltb-true c manyNumbers e)
+    go false e = List·getD-eq-default blank 0 {n = c} (rw (length-replicate {A = ℕ} manyNumbers 0) (ltb-false c manyNumbers e))
 
 pub marked-none : Marked blank []
 unfolding member
@@ -63,9 +63,9 @@ only-less {marks} {seen} c h o = record { is = λ k e. go k (eqb k c) refl e }
     go k true q e = rw (eqb-true k c q) (getD-set-same marks c 0 0 h)
     go k false q e = getD-set-other marks c k 0 0 (eqb-false k c q) ∙ o .is k (rw (q, e))
 
-pub only-none : {marks : List ℕ} → length marks ≡ largestN → Only marks [] → marks ≡ blank
+pub only-none : {marks : List ℕ} → length marks ≡ manyNumbers → Only marks [] → marks ≡ blank
 unfolding member
-only-none {marks} h o = ext-getD 0 marks blank (h ∙ sym (length-replicate {A = ℕ} largestN 0)) (λ i l. o .is i refl ∙ sym (blank-at i))
+only-none {marks} h o = ext-getD 0 marks blank (h ∙ sym (length-replicate {A = ℕ} manyNumbers 0)) (λ i l. o .is i refl ∙ sym (blank-at i))
 
 -- a cell that gets a mark is one fewer without
 pub unmet-mark : (k : ℕ) (m : List ℕ) (c : ℕ) → c < k → c < length m → getD m c 0 ≡ 0 → unmet k (set m c 1) + 1 ≡ unmet k m
@@ -82,4 +82,4 @@ unmet-new (suc k) zero h = absurd (omega arith)
 unmet-new (suc k) (suc n) h = omega (arith, unmet-new k n (omega arith))
 
 pub unmet-blank : (k : ℕ) → k ≤ largestN → unmet k blank ≡ k
-unmet-blank k h = unmet-new k largestN h
+unmet-blank k h = unmet-new k manyNumbers (omega arith)

@@ -14,8 +14,12 @@ use Rattle.cells.specs.Bridge.{cellIn}
 abbrev pub back : ℕ → List ℕ → List ℕ
 back n order = reverse (take n order)
 
+-- a cell is named by a number of 16 bits, and there is a mark for each
+abbrev pub manyNumbers : ℕ
+manyNumbers = 65536
+
 abbrev pub blank : List ℕ
-blank = replicate largestN 0
+blank = replicate manyNumbers 0
 
 -- no cell twice
 abbrev pub Once : List ℕ → Type 0
@@ -47,6 +51,6 @@ pub record Ordered (s order : List ℕ) (n : ℕ) : Type 0 where
 pub record Clears (order marks : List ℕ) (n : ℕ) : Type 0 where
   pub few : n ≤ largestN
   pub sized : length order ≡ largestN
-  pub wide : length marks ≡ largestN
+  pub wide : length marks ≡ manyNumbers
   pub inside : (k : ℕ) → k < n → getD order k 0 < largestN
   pub only : Only marks (back n order)

@@ -16,7 +16,7 @@ use Rattle.steps.specs.Follows.{Follows}
 use Rattle.undo.specs.Verdict.{told}
 use Rattle.undo.specs.Did.{Always, reading}
 use Rattle.structures.specs.declared.Walked.{Walked}
-use Rattle.structures.specs.Marks.{back, blank, Marked, unmet, Ordered}
+use Rattle.structures.specs.Marks.{back, manyNumbers, blank, Marked, unmet, Ordered}
 
 -- M, unless go is a refusal, gets v from the numbers s, or is refused: the verdict r
 abbrev pub Gets : {A : Type 0} → (Rest → Type 0) → Act A → List ℕ → ℕ → ℕ → A → Type 0
@@ -35,7 +35,7 @@ pub record Clean (s order marks : List ℕ) : Type 0 where
 -- in a walk: the first n of the order are marked, and there is room for the rest
 pub record Holds (s order marks : List ℕ) (n : ℕ) : Type 0 where
   pub small : length s ≤ largestN
-  pub wide : length marks ≡ largestN
+  pub wide : length marks ≡ manyNumbers
   pub ordered : Ordered s order n
   pub marked : Marked marks (back n order)
   pub room : n + unmet (length s) marks ≤ length s

@@ -7,6 +7,7 @@ ghost use Rattle.paper.specs.Limits.{largestN};
 ghost use Rattle.paper.specs.Walk.{chain, chainBack};
 ghost use Rattle.cells.specs.Layout.{unpackOf};
 ghost use Rattle.undo.specs.Did.{Always, Reads};
+ghost use Rattle.structures.specs.Marks.{manyNumbers};
 ghost use Rattle.structures.specs.Walks.{Clean, Holds, FineLink, Chains, Ends, Lists};
 use crate::Marks;
 use crate::Order;
@@ -17,7 +18,7 @@ use paper::limits;
 
 // Whether the cell c, which holds x, may come next: a word that is no cell of the machine's own and has not been met.
 fn fine(marks: &Marks, c: u16, x: u64) -> bool
-    requires { ⌜ length (now marks) ≡ largestN ⌝ }
+    requires { ⌜ length (now marks) ≡ manyNumbers ⌝ }
     ensures { λ r. ⌜ (r ≡ true → FineLink (now (marks .entry)) c (unpackOf x)) ⌝ }
 {
     if c <= limits::H2 {
@@ -31,7 +32,7 @@ fn fine(marks: &Marks, c: u16, x: u64) -> bool
 
 // Why a cell may not come next: its checks in order.
 fn refused(cells: &[u64], marks: &Marks, c: u16) -> Got
-    requires { ⌜ length (now marks) ≡ largestN ⌝ }
+    requires { ⌜ length (now marks) ≡ manyNumbers ⌝ }
     ensures { λ r. ⌜ Chains (now (cells .entry)) (now (marks .entry)) c (r .go) (r .x) ⌝ }
 {
     let w = acts::named(cells, 0, c);
@@ -41,7 +42,7 @@ fn refused(cells: &[u64], marks: &Marks, c: u16) -> Got
 
 // The cell that comes next.
 fn arrive(cells: &[u64], marks: &Marks, c: u16) -> Got
-    requires { ⌜ length (now marks) ≡ largestN ⌝ }
+    requires { ⌜ length (now marks) ≡ manyNumbers ⌝ }
     ensures { λ r. ⌜ Chains (now (cells .entry)) (now (marks .entry)) c (r .go) (r .x) ⌝ }
 {
     let x = cells::peek(cells, c);

@@ -10,7 +10,7 @@ ghost use Rattle.cells.specs.Layout.{unpackOf};
 ghost use Rattle.cells.specs.Pack.{Packs};
 ghost use Rattle.undo.specs.Log.{Room};
 ghost use Rattle.undo.specs.Did.{Always, Did};
-ghost use Rattle.structures.specs.Marks.{Ordered, Clears};
+ghost use Rattle.structures.specs.Marks.{manyNumbers, Ordered, Clears};
 ghost use Rattle.structures.specs.Walks.{Clean};
 ghost use Rattle.structures.specs.Copies.{newOf, newsOf, Begins, Finds, AllNew, Prepares};
 use crate::Marks;
@@ -52,7 +52,7 @@ fn find(cells: &[u64], order: &Order, marks: &mut Marks, n: usize) -> Found
 
 // Whether c is one of the new cells of the first n of the order.
 fn among(order: &Order, marks: &Marks, n: usize, c: u16) -> bool
-    requires { ⌜ (n ≤ largestN) × (length (now order) ≡ largestN) × (length (now marks) ≡ largestN) ⌝ }
+    requires { ⌜ (n ≤ largestN) × (length (now order) ≡ largestN) × (length (now marks) ≡ manyNumbers) ⌝ }
     ensures { λ r. ⌜ (r ≡ false → member c (newsOf (now (marks .entry)) (now (order .entry)) n) ≡ false) ⌝ }
 {
     let mut i = 0;
@@ -131,7 +131,7 @@ fn prepare(
 
 // A local name is given anew.
 fn new_symb(marks: &Marks, q: u8, symb: u16) -> u16
-    requires { ⌜ length (now marks) ≡ largestN ⌝ }
+    requires { ⌜ length (now marks) ≡ manyNumbers ⌝ }
     ensures { λ r. ⌜ r ≡ cond (eqb q 2) (newOf (now (marks .entry)) symb) symb ⌝ }
 {
     if q == 2 {
@@ -142,7 +142,7 @@ fn new_symb(marks: &Marks, q: u8, symb: u16) -> u16
 
 // What the copy of a cell holds, by the new cells in the marks.
 fn copied(marks: &Marks, x: u64) -> u64
-    requires { ⌜ length (now marks) ≡ largestN ⌝ }
+    requires { ⌜ length (now marks) ≡ manyNumbers ⌝ }
     ensures { λ r. ⌜ Packs r (copied (newOf (now (marks .entry))) (unpackOf x)) ⌝ }
 {
     let c = cells::unpack(x);

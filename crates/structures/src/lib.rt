@@ -15,10 +15,13 @@ mod walks;
 use paper::limits;
 pub use walks::walk;
 
+// A cell is named by a number of 16 bits, and there is a mark for each.
+pub const MANY_NUMBERS: usize = 65536;
+
 // The cells met, one after another; a number for each cell, 0 where it has not been met.
 pub type Order = [u16; limits::LARGEST_N];
 
-pub type Marks = [u16; limits::LARGEST_N];
+pub type Marks = [u16; MANY_NUMBERS];
 
 // The verdict, and how many cells of the order were met.
 pub struct Walked {

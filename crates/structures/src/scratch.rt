@@ -3,26 +3,21 @@ ghost use mathlib.Core.Path.{_≡_};
 ghost use Prim.Native.Nat.{_<_};
 ghost use lib.ListN.{length, getD, set};
 ghost use Rattle.paper.specs.Limits.{largestN};
-ghost use Rattle.structures.specs.Marks.{blank, Clears};
+ghost use Rattle.structures.specs.Marks.{manyNumbers, blank, Clears};
 use crate::Marks;
 use crate::Order;
-use paper::limits;
 
-// What is marked at c: past the end nothing.
+// What is marked at c. There is a mark for every number, so no bound is asked for.
 pub fn mark_at(marks: &Marks, c: u16) -> u16
-    requires { ⌜ length (now marks) ≡ largestN ⌝ }
+    requires { ⌜ length (now marks) ≡ manyNumbers ⌝ }
     ensures { λ r. ⌜ r ≡ getD (now (marks .entry)) c 0 ⌝ }
 {
-    let i = c as usize;
-    if i < limits::LARGEST_N {
-        return marks[i];
-    }
-    0
+    marks[c as usize]
 }
 
 // Cell c comes next in the order, and is marked.
 pub fn enlist(order: &mut Order, marks: &mut Marks, n: usize, c: u16)
-    requires { ⌜ (n < largestN) × (c < largestN) ⌝ }
+    requires { ⌜ (n < largestN) × (length (now marks) ≡ manyNumbers) ⌝ }
     ensures { λ _. ⌜ (now (order .exit) ≡ set (now (order .entry)) n c) × (now (marks .exit) ≡ set (now (marks .entry)) c 1) ⌝ }
 {
     order[n] = c;

@@ -8,7 +8,7 @@ ghost use Rattle.paper.specs.Limits.{largestN, deepest};
 ghost use Rattle.paper.specs.Cell.{isWord};
 ghost use Rattle.paper.specs.Walk.{enter, walkBack};
 ghost use Rattle.cells.specs.Layout.{unpackOf, qOf, symbOf};
-ghost use Rattle.structures.specs.Marks.{back};
+ghost use Rattle.structures.specs.Marks.{back, manyNumbers};
 ghost use Rattle.structures.specs.Walks.{Clean, Holds, Fine, Arrives, Visits, Ends, sublist, Lists};
 use crate::Marks;
 use crate::Order;
@@ -19,7 +19,7 @@ use paper::limits;
 
 // Whether the cell c, which holds x, may come next: three looks where a LINK led to it.
 fn fine(marks: &Marks, linked: bool, depth: usize, c: u16, x: u64) -> bool
-    requires { ⌜ length (now marks) ≡ largestN ⌝ }
+    requires { ⌜ length (now marks) ≡ manyNumbers ⌝ }
     ensures { λ r. ⌜ (r ≡ true → Fine (now (marks .entry)) linked depth c (unpackOf x)) ⌝ }
 {
     if c < limits::FIRST_DECK {
@@ -53,7 +53,7 @@ fn too_deep(linked: bool, depth: usize) -> bool
 
 // Why a cell may not come next: its checks in order.
 fn refused(cells: &[u64], marks: &Marks, linked: bool, depth: usize, c: u16) -> Got
-    requires { ⌜ length (now marks) ≡ largestN ⌝ }
+    requires { ⌜ length (now marks) ≡ manyNumbers ⌝ }
     ensures { λ r. ⌜ Arrives (now (cells .entry)) (now (marks .entry)) linked depth c (r .go) (r .x) ⌝ }
 {
     let t = acts::touch(cells, 0, c);
@@ -66,7 +66,7 @@ fn refused(cells: &[u64], marks: &Marks, linked: bool, depth: usize, c: u16) -> 
 
 // The cell that comes next, reached by a LINK or as the head of a list at a depth.
 fn arrive(cells: &[u64], marks: &Marks, linked: bool, depth: usize, c: u16) -> Got
-    requires { ⌜ length (now marks) ≡ largestN ⌝ }
+    requires { ⌜ length (now marks) ≡ manyNumbers ⌝ }
     ensures { λ r. ⌜ Arrives (now (cells .entry)) (now (marks .entry)) linked depth c (r .go) (r .x) ⌝ }
 {
     let x = cells::peek(cells, c);

@@ -8,7 +8,7 @@ use lib.ListN.{length, getD, length-set}
 use Rattle.paper.specs.Limits.{largestN}
 use Rattle.paper.specs.Cell.{Word}
 use Rattle.cells.specs.Bridge.{unpacked}
-use Rattle.structures.specs.Marks.{back, Only}
+use Rattle.structures.specs.Marks.{back, manyNumbers, Only}
 use Rattle.structures.specs.Copies.{newsOf, Run, Finds}
 use Rattle.structures.proofs.Leads.{owned-by}
 use Rattle.structures.proofs.Marks.{back-more}
@@ -21,7 +21,7 @@ use Rattle.structures.proofs.copies.find.Tie as tie
 abbrev Inv : tie.InvT-loop
 Inv cells order marks₀ n h next₀ i₀ marks next i =
     (i ≤ n)
-    × (length marks ≡ largestN)
+    × (length marks ≡ manyNumbers)
     × Only marks (back i order)
     × Run (unpacked cells) (h % 65536) (newsOf marks order i) next
 
@@ -99,7 +99,7 @@ find-spec =
     (λ c. omega (arith, c .before .before .before .before .before .before .before .before .pre .few))
     (λ c. omega (arith, inside c))
     (λ c. omega (arith, inside c))
-    (λ c. inside c)
+    (λ c. omega (arith, inside c))
     (λ c κs. search needs)
     (λ c. omega arith)
     (λ c. omega arith)

@@ -6,7 +6,7 @@ use lib.ListN.{length, getD, length-set}
 use Rattle.undo.specs.Verdict.{told}
 use Rattle.paper.specs.Limits.{largestN}
 use Rattle.cells.specs.Layout.{unpackOf}
-use Rattle.structures.specs.Marks.{back, Only}
+use Rattle.structures.specs.Marks.{back, manyNumbers, Only}
 use Rattle.structures.proofs.Marks.{back-more}
 use Rattle.structures.proofs.Holding.{blank-wide, only-blank}
 use Rattle.structures.specs.Copies.{newsOf}
@@ -17,7 +17,7 @@ use Rattle.structures.proofs.copies.take_all.Tie as tie
 
 abbrev Inv : tie.InvT-loop
 Inv cells₀ log₀ order marks₀ n go go₀ i₀ cells log marks go′ i =
-    (i ≤ n) × (length cells ≡ length cells₀) × (length log ≡ length log₀) × (length marks ≡ largestN) × Only marks (back i order)
+    (i ≤ n) × (length cells ≡ length cells₀) × (length log ≡ length log₀) × (length marks ≡ manyNumbers) × Only marks (back i order)
     × Takes order n i (cells₀, log₀) (told go) (newsOf marks order i) (cells, log) (told go′)
 
 abbrev μ : tie.MeasureT-loop
@@ -93,7 +93,7 @@ take-all-spec =
     (λ c. omega (arith, at c .before .before .before .pre .0 .few))
     (λ c. omega (arith, inside (c .before)))
     (λ c. omega (arith, inside (c .before)))
-    (λ c. inside (c .before))
+    (λ c. omega (arith, inside (c .before)))
     (λ c. omega arith)
     (λ c. omega arith)
     again

@@ -4,13 +4,13 @@ use mathlib.Core.Path.{_≡_, subst}
 use native.Mathlib.Omega.{arith}
 use lib.ListN.{length, getD, length-set}
 use Rattle.paper.specs.Limits.{largestN}
-use Rattle.structures.specs.Marks.{back, Only}
+use Rattle.structures.specs.Marks.{back, manyNumbers, Only}
 use Rattle.structures.proofs.Marks.{back-less, only-less, only-none}
 use Rattle.structures.proofs.scratch.clear.Statement.{statement}
 use Rattle.structures.proofs.scratch.clear.Tie as tie
 
 abbrev Inv-loop : tie.InvT-loop
-Inv-loop order marks₀ n k₀ marks k = (k ≤ n) × (length marks ≡ largestN) × Only marks (back k order)
+Inv-loop order marks₀ n k₀ marks k = (k ≤ n) × (length marks ≡ manyNumbers) × Only marks (back k order)
 
 abbrev μ-loop : tie.MeasureT-loop
 μ-loop order marks₀ n k₀ marks k = k
@@ -44,7 +44,7 @@ clear-spec =
     (λ c. omega arith)
     (λ c. omega (arith, inside (c .before)))
     (λ c. omega (arith, inside (c .before)))
-    (λ c. inside (c .before))
+    (λ c. omega (arith, inside (c .before)))
     (λ c. omega arith)
     loop-again
     returns)
