@@ -23,12 +23,12 @@ use Rattle.undo.specs.Verdict.{told}
 use Rattle.undo.specs.Did.{Always, reading}
 use Rattle.undo.proofs.Leaves.{peeked}
 use Rattle.structures.specs.Marks.{back, Marked}
-use Rattle.structures.specs.Walks.{Gets, Fine, FineLink, trail, Visits, arrives, chains, sublist}
+use Rattle.structures.specs.Walks.{Gets, Fine, FineLink, trail, Visits, arrives, chains, listOf, sublist}
 use Rattle.structures.proofs.Leads.{done-not, verdict-is, known, sized-on}
 use Rattle.structures.proofs.Meeting.{New, word-used, s-touch}
 
 -- the list that a cell names, and its LINK, by the word in it
-pub list-in : (x : Cell) (w : ℕ) → wordIn x ≡ wordOf w → cond (eqb (qOf w) 2) (symbOf w) 0 ≡ listNamed x
+pub list-in : (x : Cell) (w : ℕ) → wordIn x ≡ wordOf w → listOf w ≡ listNamed x
 list-in x w e = ap (λ (v : Word). cond (eqb (v .q) 2) (v .symb) 0) (sym e) ∙ go x
   where
     go : (x : Cell) → cond (eqb (wordIn x .q) 2) (wordIn x .symb) 0 ≡ listNamed x
@@ -36,6 +36,12 @@ list-in x w e = ap (λ (v : Word). cond (eqb (v .q) 2) (v .symb) 0) (sym e) ∙ 
     go (word v) = refl
     go (term t) = refl
     go process = refl
+
+pub list-none : (w : ℕ) → (qOf w ≡ 2 → ⊥) → listOf w ≡ 0
+list-none w h = ap (λ b. cond b (symbOf w) 0) (ne-eqb (qOf w) 2 h)
+
+pub list-is : (w : ℕ) → qOf w ≡ 2 → listOf w ≡ symbOf w
+list-is w h = ap (λ b. cond b (symbOf w) 0) (eq-eqb (qOf w) 2 h)
 
 -- one turn: `follow` by a LINK, `enter` at a head
 abbrev pub step : Bool → ℕ → ℕ → ℕ → Trail → Act Trail

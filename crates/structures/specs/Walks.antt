@@ -1,7 +1,7 @@
 -- The contracts of the walk: what it begins with, and what it leaves in the order and the marks.
 use Prim.Native.Nat.{ℕ, zero, suc, _+_, _<_, _≤_}
 use mathlib.Core.Path.{_≡_}
-use mathlib.Core.Bool.{Bool, true, false, _&&_, not}
+use mathlib.Core.Bool.{Bool, true, false, cond, _&&_, not}
 use mathlib.Core.List.{List}
 use lib.ListN.{length, getD}
 use lib.Dec.{ltb, eqb}
@@ -10,7 +10,7 @@ use Rattle.paper.specs.Cell.{Word, Cell, isFree, isWord, H}
 use Rattle.paper.specs.Act.{Act, _>>=_, _>>_, ret, refuseIf, ifThen, named}
 use Rattle.paper.specs.declared.Refusal.the-variants.{WrongKind, BadWalk}
 use Rattle.paper.specs.Walk.{Trail, member, meet, enter}
-use Rattle.cells.specs.Layout.{unpackOf, wordOf}
+use Rattle.cells.specs.Layout.{unpackOf, wordOf, qOf, symbOf}
 use Rattle.cells.specs.Bridge.{Rest}
 use Rattle.steps.specs.Follows.{Follows}
 use Rattle.undo.specs.Verdict.{told}
@@ -89,6 +89,10 @@ pub record FineLink (marks : List ℕ) (c : ℕ) (x : Cell) : Type 0 where
   pub high : H 2 < c
   pub kind : isWord x ≡ true
   pub unmarked : getD marks c 0 ≡ 0
+
+-- the list that a word names, 0 for none
+abbrev pub listOf : ℕ → ℕ
+listOf w = cond (eqb (qOf w) 2) (symbOf w) 0
 
 -- the list that a cell at a depth names, 0 for none
 unfoldable pub sublist : ℕ → ℕ → ℕ → Trail → Act Trail

@@ -1,20 +1,21 @@
 // The walk: from a head along the LINKs, and after each cell the list that it names.
 ghost use mathlib.Core.Path.{_≡_};
-ghost use mathlib.Core.Bool.{true, cond, _&&_, not};
+ghost use mathlib.Core.Bool.{true, _&&_, not};
 ghost use Prim.Native.Nat.{_+_, _≤_};
 ghost use lib.ListN.{length};
-ghost use lib.Dec.{ltb, eqb};
+ghost use lib.Dec.{ltb};
 ghost use Rattle.paper.specs.Limits.{largestN, deepest};
 ghost use Rattle.paper.specs.Cell.{isWord};
 ghost use Rattle.paper.specs.Walk.{enter, walkBack};
-ghost use Rattle.cells.specs.Layout.{unpackOf, qOf, symbOf};
+ghost use Rattle.cells.specs.Layout.{unpackOf};
 ghost use Rattle.structures.specs.Marks.{back, manyNumbers};
-ghost use Rattle.structures.specs.Walks.{Clean, Holds, Fine, Arrives, Visits, Ends, sublist, Lists};
+ghost use Rattle.structures.specs.Walks.{Clean, Holds, Fine, Arrives, Visits, Ends, listOf, sublist, Lists};
 use crate::Marks;
 use crate::Order;
 use crate::Walked;
 use crate::scratch;
 use acts::Got;
+use paper::Symbol;
 use paper::limits;
 
 // Whether the cell c, which holds x, may come next: three looks where a LINK led to it.
@@ -76,16 +77,6 @@ fn arrive(cells: &[u64], marks: &Marks, linked: bool, depth: usize, c: u16) -> G
     refused(cells, marks, linked, depth, c)
 }
 
-// The list that a word names, 0 for none.
-fn list_named(w: u64) -> u16
-    ensures { λ r. ⌜ r ≡ cond (eqb (qOf w) 2) (symbOf w) 0 ⌝ }
-{
-    if w / cells::Q % 256 == 2 {
-        return (w / cells::SYMB % 65536) as u16;
-    }
-    0
-}
-
 // From head along the LINKs; after each cell the list that it names.
 fn walk_links(
     cells: &[u64],
@@ -110,7 +101,7 @@ fn walk_links(
         }
         let w = cells::word_in(m.x);
         scratch::enlist(order, marks, n, c);
-        let inner = enter_sublist(cells, order, marks, list_named(w), depth, n + 1);
+        let inner = enter_sublist(cells, order, marks, w, depth, n + 1);
         if inner.go != 0 {
             return inner;
         }
@@ -123,19 +114,23 @@ fn walk_links(
     }
 }
 
-// The list at head, one level deeper; 0 names none.
+// The list that the word w names, one level deeper; it may name none.
 fn enter_sublist(
     cells: &[u64],
     order: &mut Order,
     marks: &mut Marks,
-    head: u16,
+    w: u64,
     depth: usize,
     from: usize,
 ) -> Walked
     requires { ⌜ Holds (now cells) (now order) (now marks) from × (depth ≤ deepest) ⌝ }
-    ensures { λ r. ⌜ Ends (λ f. Visits (sublist depth head f) (now (cells .entry)) (back from (now (order .entry))))
+    ensures { λ r. ⌜ Ends (λ f. Visits (sublist depth (listOf w) f) (now (cells .entry)) (back from (now (order .entry))))
         (now (cells .entry)) (now (marks .entry)) (now (order .exit)) (now (marks .exit)) r ⌝ }
 {
+    if (w / cells::Q % 256) as u8 != Symbol::LOCAL {
+        return Walked { go: 0, n: from };
+    }
+    let head = (w / cells::SYMB % 65536) as u16;
     if head == 0 {
         return Walked { go: 0, n: from };
     }

@@ -21,10 +21,9 @@ use Rattle.structures.specs.Walks.{Gets, Holds, Visits, arrives, sublist
 use Rattle.structures.proofs.Leads.{Leads, leads-none, leads-end, leads-more, known, verdict-is}
 use Rattle.structures.proofs.Meeting.{New, s-arrives}
 use Rattle.structures.proofs.Holding.{holds-clears, fewer, fits, seen-more, holds-more, holds-as, ends-done, ends-refused, left-done, left-refused}
-use Rattle.structures.proofs.Turn.{list-in, step, visits-as, sublist-none, sublist-in, sublist-as, meet-refused, inner-refused, walk-end, walk-on}
+use Rattle.structures.proofs.Turn.{list-in, list-none, list-is, step, visits-as, sublist-none, sublist-in, sublist-as, meet-refused, inner-refused, walk-end, walk-on}
 use Rattle.structures.proofs.scratch.clear.Reads as clear-reads
 use Rattle.structures.proofs.scratch.enlist.Reads as enlist-reads
-use Rattle.structures.proofs.walks.list_named.Reads as list-named-reads
 use Rattle.structures.proofs.walks.arrive.Reads as arrive-reads
 use Rattle.structures.proofs.walks.enter_sublist.Reads as enter-reads
 use Rattle.structures.proofs.walks.enter_sublist.Kinds as enter-kinds
@@ -67,8 +66,6 @@ l-claims t = (
   word-in-reads.Learnt,
   enlist-reads.Asked,
   enlist-reads.Learnt,
-  list-named-reads.Asked,
-  list-named-reads.Learnt,
   enter-below t,
   enter-reads.Post,
 )
@@ -86,19 +83,35 @@ abbrev μ : links-lts.MeasureT-loop
 μ cells order₀ marks₀ head depth from c₀ n₀ linked₀ order marks c n linked = unmet (length cells) marks
 
 module _ (t : ℕ) where
+  e-cast : enter-lts.Need-cast-if1 (e-claims t) (enter-at t) enter-reads.Post
+  e-cast c = omega arith
+
   e-returns : enter-lts.Need-returns (e-claims t) (enter-at t) enter-reads.Post
-  e-returns c = record { says = λ f h. sublist-none _ _ _ f (c .if1 .taken); left = (c .before .before .pre .1 .0, omega arith) }
+  e-returns c = record { says = λ f h. sublist-none _ _ _ f (list-none _ (c .if1 .taken)); left = (c .before .before .pre .1 .0, omega arith) }
+
+  e-head : enter-lts.Need-cast-head (e-claims t) (enter-at t) enter-reads.Post
+  e-head c = omega arith
+
+  e-returns-2 : enter-lts.Need-returns-2 (e-claims t) (enter-at t) enter-reads.Post
+  e-returns-2 c = record {
+    says = λ f h. sublist-none _ _ _ f (list-is _ (c .before .if1 .left) ∙ (c .if2 .taken));
+    left = (c .before .before .before .pre .1 .0, omega arith);
+  }
 
   e-add : enter-lts.Need-add-walk-links (e-claims t) (enter-at t) enter-reads.Post
   e-add c = omega arith
 
   e-walk-links : enter-lts.Need-walk-links-requires (e-claims t) (enter-at t) enter-reads.Post
-  e-walk-links c κs = (omega arith, (c .before .before .before .before .pre .1 .0, omega arith))
+  e-walk-links c κs = (omega arith, (c .before .before .before .before .before .pre .1 .0, omega arith))
 
-  e-returns-2 : enter-lts.Need-returns-2 (e-claims t) (enter-at t) enter-reads.Post
-  e-returns-2 c =
+  e-returns-3 : enter-lts.Need-returns-3 (e-claims t) (enter-at t) enter-reads.Post
+  e-returns-3 c =
+      let c₁ = c .before .before .before in
       let e = c .walk-links .ensures in
-      record { says = λ f h. sublist-in _ _ _ f (c .before .before .before .if1 .left) (e .says f h); left = e .left }
+      record {
+        says = λ f h. sublist-as _ _ _ f (sym (list-is _ (c₁ .before .if1 .left))) refl (sublist-in _ _ _ f (c₁ .if2 .left) (e .says f h));
+        left = e .left;
+      }
 
   holds : links-lts.Need-loop-holds (l-claims t) (links-at t) links.Post Inv μ
   holds c = (c .before .pre .1 .0, omega arith, (λ e. absurd (true≢false (sym e))), leads-none _ _)
@@ -170,28 +183,25 @@ module _ (t : ℕ) where
   less : (c : Listed) → unmet (length (cells (of c))) (c .enlist .last .1 .0) + 1 ≡ unmet (length (cells (of c))) (at (of c) .loop .marks)
   less c = ap (λ m. unmet (length (cells (of c))) m + 1) (c .enlist .ensures .1) ∙ fewer (at (of c) .loop .inv .0) _ (new (of c) .0)
 
-  list-named-requires : links-lts.Need-list-named-requires (l-claims t) (links-at t) links.Post Inv μ
-  list-named-requires c κs = search needs
-
   add : links-lts.Need-add-enter-sublist (l-claims t) (links-at t) links.Post Inv μ
-  add c = let m = of (c .before .before .before) in omega (arith, fits (at m .loop .inv .0) _ (new m .0))
+  add c = let m = of (c .before .before) in omega (arith, fits (at m .loop .inv .0) _ (new m .0))
 
   enter-requires : links-lts.Need-enter-sublist-requires (l-claims t) (links-at t) links.Post Inv μ
-  enter-requires c κs = let l = c .before .before .before in (omega arith, (held l, new (of l) .1))
+  enter-requires c κs = let l = c .before .before in (omega arith, (held l, new (of l) .1))
 
   -- and the list that it names was entered
   abbrev Entered : Type 0
   Entered = links-lts.After-enter-sublist (l-claims t) (links-at t) links.Post Inv μ
 
   abbrev on : Entered → Listed
-  on c = c .before .before .before .before
+  on c = c .before .before .before
 
   inner : (c : Entered) (k : ℕ) → unmet (length (cells (of (on c)))) (at (of (on c)) .loop .marks) ≤ k
       → Visits (sublist (depth (of (on c))) (listNamed (cell (of (on c)))) k) (cells (of (on c))) (at (of (on c)) .loop .c ∷ seen (of (on c)))
       (c .enter-sublist .result .go) (back (c .enter-sublist .result .n) (c .enter-sublist .last .1 .0))
   inner c k h =
       let m = of (on c) in
-      sublist-as _ _ _ k (c .before .list-named .ensures ∙ list-in (cell m) _ (on c .before .before .before .word-in .ensures))
+      sublist-as _ _ _ k (list-in (cell m) _ (on c .before .before .before .word-in .ensures))
       (ap (back (at m .loop .n + 1)) (on c .enlist .ensures .0) ∙ seen-more (at m .loop .inv .0) _ (new m .0))
       (c .enter-sublist .ensures .says k (omega (arith, less (on c))))
 
@@ -259,7 +269,8 @@ module _ (t : ℕ) where
 pub +enter-sublist+walk-links-spec : {M : Type 1} → statement M
 +enter-sublist+walk-links-spec =
     close μ-enter μ-links
-    (λ t. enter-lts.spec (e-claims t) (enter-at t) enter-reads.Post (e-returns t) (e-add t) (e-walk-links t) (e-returns-2 t))
+    (λ t. enter-lts.spec (e-claims t) (enter-at t) enter-reads.Post (e-cast t) (e-returns t) (e-head t) (e-returns-2 t) (e-add t)
+    (e-walk-links t) (e-returns-3 t))
     (λ t. links-lts.spec (l-claims t) (links-at t) links.Post Inv μ
     (holds t)
     (arrive-requires t)
@@ -267,7 +278,6 @@ pub +enter-sublist+walk-links-spec : {M : Type 1} → statement M
     (returns t)
     (word-in-requires t)
     (enlist-requires t)
-    (list-named-requires t)
     (add t)
     (enter-requires t)
     (returns-2 t)
