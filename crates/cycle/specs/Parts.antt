@@ -1,14 +1,14 @@
 -- What a part of a cycle has done: as `Printing` of crate printing, in at most k writes that are logged, from a verdict that refuses nothing.
 -- A part sees only its own line.
-use Prim.Native.Nat.{ℕ, _-_, _^_, _<_, _≤_}
+use Prim.Native.Nat.{ℕ, _-_, _≤_}
 use mathlib.Core.Option.{none}
 use mathlib.Core.List.{List, []}
-use lib.ListN.{length, getD}
+use lib.ListN.{length}
 use denote.Ref.{now}
 use Rattle.paper.specs.Cell.{Region}
 use Rattle.paper.specs.Act.{Act}
 use Rattle.steps.specs.Follows.{Follows}
-use Rattle.regions.specs.Lent.{Tells}
+use Rattle.regions.specs.Lent.{Tells, Told}
 use Rattle.undo.specs.Verdict.{told}
 use Rattle.undo.specs.Log.{Room}
 use Rattle.undo.specs.Did.{Lent}
@@ -27,12 +27,6 @@ pub record Part {A : Type 0} (table : List ℕ) (k : ℕ) (M : Act A) (x : List 
 abbrev pub Steps : {A : Type 0} → ℕ → Act A → Lent → Lent → Lent → Lent → ℕ → Printed → A → Type 0
 Steps k M cells log table out at r v =
     Part (now (table .entry)) k M (now (cells .entry), now (log .entry)) (now (out .entry)) at (now (cells .exit), now (log .exit)) (now (out .exit)) r v
-
--- a table that tells regions which end among the cells' numbers
-pub record Told (table : List ℕ) : Type 0 where
-  pub low : getD table 0 0 < 2 ^ 16
-  pub regions : List Region
-  pub tells : Tells table regions
 
 -- what a part is lent: a clean scratch, room for k writes, lines within the lent bytes, and a table
 pub record Lends (k : ℕ) (s l order marks table out : List ℕ) (at : ℕ) : Type 0 where

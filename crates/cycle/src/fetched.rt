@@ -1,5 +1,7 @@
 // Step 3 before its operation: what is to be done.
 ghost use mathlib.Core.Path.{_≡_};
+ghost use Prim.Native.Nat.{_≤_};
+ghost use Rattle.paper.specs.Limits.{firstDeck};
 ghost use Rattle.cells.specs.Layout.{wordOf};
 ghost use Rattle.undo.specs.Did.{Top, Reads};
 ghost use Rattle.cycle.specs.Order.{orderOf, orderIn, fetch};
@@ -27,6 +29,7 @@ fn nothing(go: u32) -> Fetched
 
 // A word w that was fetched from cell c.
 fn order_in(cells: &[u64], top: u16, c: u16, w: u64) -> Fetched
+    requires { ⌜ firstDeck ≤ top ⌝ }
     ensures { λ r. ⌜ Reads (Top top) (orderIn c (wordOf w)) cells 0 (r .go) (orderOf r) ⌝ }
 {
     let q = (w / cells::Q % 256) as u8;
@@ -49,6 +52,7 @@ fn order_in(cells: &[u64], top: u16, c: u16, w: u64) -> Fetched
 
 // "fetch the word H1 names and its LINK"; "A process cell fetched directly does its process; its LINK reads as 0".
 pub fn fetch(cells: &[u64], top: u16, c: u16) -> Fetched
+    requires { ⌜ firstDeck ≤ top ⌝ }
     ensures { λ r. ⌜ Reads (Top top) (fetch c) cells 0 (r .go) (orderOf r) ⌝ }
 {
     if c == 0 {

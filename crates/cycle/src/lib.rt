@@ -5,15 +5,16 @@ ghost use mathlib.Core.List.{List};
 ghost use mathlib.Core.Logic.{_≢_};
 ghost use Prim.Native.Nat.{_+_, _-_, _*_, _^_, _<_, _≤_};
 ghost use lib.ListN.{length, getD};
+ghost use Rattle.paper.specs.Limits.{firstDeck};
 ghost use Rattle.paper.specs.Cell.{J, Region};
 ghost use Rattle.paper.specs.Process.{then as andThen, goesOn, perform};
 ghost use Rattle.paper.specs.Cycle.{executes, operate, interpret};
 ghost use Rattle.undo.specs.Log.{Room};
 ghost use Rattle.undo.specs.Did.{Top, Suits, Did};
-ghost use Rattle.regions.specs.Lent.{Tells};
+ghost use Rattle.regions.specs.Lent.{Tells, Told};
 ghost use Rattle.structures.specs.Walks.{Clean};
 ghost use Rattle.cycle.specs.Moves.{controlOf};
-ghost use Rattle.cycle.specs.Parts.{Told, Lends, Steps};
+ghost use Rattle.cycle.specs.Parts.{Lends, Steps};
 ghost use Rattle.cycle.specs.Turns.{Ready, Turns, Settles};
 use fetched::Fetched;
 use paper::Refusal;
@@ -91,10 +92,10 @@ fn perform(
     Printed { go: go, end: at }
 }
 
-// Where the regions end.
+// Where the regions end: at the first cell of a deck or past it.
 fn top_of(table: &Table) -> u16
-    requires { ⌜ getD (now table) 0 0 < 2 ^ 16 ⌝ }
-    ensures { λ r. ⌜ r ≡ getD (now (table .entry)) 0 0 ⌝ }
+    requires { ⌜ Told (now table) ⌝ }
+    ensures { λ r. ⌜ (r ≡ getD (now (table .entry)) 0 0) × (firstDeck ≤ r) ⌝ }
 {
     table[0] as u16
 }

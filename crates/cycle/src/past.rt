@@ -3,6 +3,7 @@ ghost use mathlib.Core.Path.{_≡_};
 ghost use Prim.Native.Nat.{_+_, _≤_};
 ghost use lib.ListN.{length};
 ghost use Rattle.paper.specs.Limits.{largestN};
+ghost use Rattle.undo.specs.Did.{Suits};
 ghost use Rattle.cycle.specs.Reaches.{isJ1, Past};
 use acts::GotSymbol;
 use paper::Symbol;

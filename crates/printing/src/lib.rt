@@ -2,14 +2,14 @@
 ghost use mathlib.Core.Path.{_≡_};
 ghost use mathlib.Core.List.{[], _∷_};
 ghost use Prim.Native.Nat.{_+_, _<_, _≤_};
-ghost use lib.ListN.{length, getD, take};
+ghost use lib.ListN.{length, take};
 ghost use lib.Seq.{paste};
 ghost use Rattle.paper.specs.Limits.{longestLine};
 ghost use Rattle.paper.specs.Region.{lettersOf};
 ghost use Rattle.paper.specs.Print.{digits, digitsBy, integerText, cellText, symbolText};
 ghost use Rattle.paper.specs.Process.{J152, J153, perform, then as andThen, goesOn};
 ghost use Rattle.cells.specs.Layout.{valueOf};
-ghost use Rattle.regions.specs.Lent.{rowsOf};
+ghost use Rattle.regions.specs.Lent.{rowsOf, Told};
 ghost use Rattle.undo.specs.Log.{Room};
 ghost use Rattle.printing.specs.Text.{Writes, Text};
 ghost use Rattle.printing.specs.Telling.{printPop, Prints};
@@ -137,7 +137,7 @@ fn print(
     line: &mut Line,
     n: usize,
 ) -> Printed
-    requires { ⌜ Room (now log) 1 × (getD (now table) 0 0 < 65536) × (at ≤ length (now out)) × (length (now line) ≡ longestLine) × (n < longestLine) ⌝ }
+    requires { ⌜ Room (now log) 1 × Told (now table) × (at ≤ length (now out)) × (length (now line) ≡ longestLine) × (n < longestLine) ⌝ }
     ensures { λ r. ⌜ Prints (printPop (take n (now (line .entry)))) cells log table out at go r tt ⌝ }
 {
     let len = end_line(line, n);
@@ -162,7 +162,7 @@ fn j152(
     at: usize,
     go: u32,
 ) -> Printed
-    requires { ⌜ Room (now log) 1 × (getD (now table) 0 0 < 65536) × (at ≤ length (now out)) ⌝ }
+    requires { ⌜ Room (now log) 1 × Told (now table) × (at ≤ length (now out)) ⌝ }
     ensures { λ r. ⌜ Prints J152 cells log table out at go r tt ⌝ }
 {
     let w = acts::own(cells, limits::H0);
@@ -180,7 +180,7 @@ fn j153(
     at: usize,
     go: u32,
 ) -> Printed
-    requires { ⌜ Room (now log) 1 × (getD (now table) 0 0 < 65536) × (at ≤ length (now out)) ⌝ }
+    requires { ⌜ Room (now log) 1 × Told (now table) × (at ≤ length (now out)) ⌝ }
     ensures { λ r. ⌜ Prints J153 cells log table out at go r tt ⌝ }
 {
     let w = acts::own(cells, limits::H0);
@@ -200,7 +200,7 @@ pub fn on_lines(
     go: u32,
     j: u16,
 ) -> Printed
-    requires { ⌜ Room (now log) 1 × (getD (now table) 0 0 < 65536) × (at ≤ length (now out)) × (152 ≤ j) × (j ≤ 153) ⌝ }
+    requires { ⌜ Room (now log) 1 × Told (now table) × (at ≤ length (now out)) × (152 ≤ j) × (j ≤ 153) ⌝ }
     ensures { λ r. ⌜ Prints (perform j) cells log table out at go r (andThen goesOn) ⌝ }
 {
     if j == 152 {

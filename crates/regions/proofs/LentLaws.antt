@@ -14,8 +14,13 @@ use Rattle.paper.specs.Limits.{firstDeck}
 use Rattle.paper.specs.Region.{Region, regionOf, H, W, J, layout, endOfRegions, lettersFrom, lettersOf}
 use Rattle.regions.specs.declared.Regions.{Regions}
 use Rattle.regions.specs.Table.{regionAt, regionsOf}
-use Rattle.regions.specs.Lent.{regionIn, rowsAt, rowsOf, Tells}
+use Rattle.paper.proofs.SoundTest.{end-at-least}
+use Rattle.regions.specs.Lent.{regionIn, rowsAt, rowsOf, Tells, Told}
 use Rattle.regions.proofs.TableLaws.{at-most, rest-more, rest-none}
+
+-- regions that a table tells end at the first cell of a deck or past it
+pub told-from : {t : List ℕ} → Told t → firstDeck ≤ getD t 0 0
+told-from k = omega (arith, k .tells .top, end-at-least (k .regions) firstDeck)
 
 -- the rows from place i on
 abbrev pub rowsLeft : List ℕ → ℕ → List Region

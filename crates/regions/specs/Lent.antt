@@ -1,6 +1,6 @@
 -- The region table as a run lends it: place 0 is where the regions end, and each place after it a row, letter * 65536 + count. Rows of 0
 -- name no cell, so there may be more rows than regions.
-use Prim.Native.Nat.{ℕ, zero, suc, _/_, _%_}
+use Prim.Native.Nat.{ℕ, zero, suc, _/_, _%_, _^_, _<_}
 use mathlib.Core.Path.{_≡_}
 use mathlib.Core.List.{List, [], _∷_}
 use mathlib.Core.Option.{Option, none, some}
@@ -27,6 +27,12 @@ pub record Tells (t : List ℕ) (rs : List Region) : Type 0 where
   pub sized : length t ≡ 24
   pub top : getD t 0 0 ≡ endOfRegions rs firstDeck
   pub names : (c : ℕ) → lettersOf (rowsOf t) c ≡ lettersOf rs c
+
+-- a table that tells regions which end among the cells' numbers
+pub record Told (t : List ℕ) : Type 0 where
+  pub low : getD t 0 0 < 2 ^ 16
+  pub regions : List Region
+  pub tells : Tells t regions
 
 -- letter and number, as the definitions have them
 abbrev pub lettersIn : Named → Option (ℕ × ℕ)

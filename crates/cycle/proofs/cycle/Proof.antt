@@ -18,7 +18,7 @@ returns c =
     let c₆ = c₅ .before .before .before .before in
     let c₇ = c₆ .before .before .before .before .before .before in
     λ rs w.
-    let p = ascends _ (c₅ .own .ensures) _ _ _ ((c₇ .pre .1)) (c₃ .top-of .ensures) (c₄ .if1 .taken) (c₂ .ascend .ensures) in
+    let p = ascends _ (c₅ .own .ensures) _ _ _ ((c₇ .pre .1)) (c₃ .top-of .ensures .0) (c₄ .if1 .taken) (c₂ .ascend .ensures) in
     record {
       came = came rs w _ _ _ _ p (c₆ .begin .ensures) _ _ (c₁ .settle .ensures);
       ready = record {

@@ -12,7 +12,7 @@ returns c =
     let c₂ = c₁ .before .before .before .before .before .before .before in
     let c₃ = c₂ .before .before .before in
     let c₄ = c₃ .before .before .before .before in (
-      stopped _ (c₃ .top-of .ensures) (c₂ .past-j1 .ensures) _ (c₁ .touch .ensures) _ (c .before .not-own .ensures) _ _ _ _ (c₄ .pre .within) (omega arith)
+      stopped _ (c₃ .top-of .ensures .0) (c₂ .past-j1 .ensures) _ (c₁ .touch .ensures) _ (c .before .not-own .ensures) _ _ _ _ (c₄ .pre .within) (omega arith)
           (omega arith),
       clean-as (c₂ .past-j1 .kept .0) (c₄ .pre .clean),
     )
@@ -42,7 +42,7 @@ perform-requires c κs =
         within = (c₉ .pre .within);
         names = (c₉ .pre .names);
       },
-      not-one ((c₉ .args .table) .now) (c₈ .top-of .ensures) (c₇ .past-j1 .ensures) _ (c₆ .touch .ensures) _ (c₅ .not-own .ensures) _ (c₄ .if1 .left)
+      not-one ((c₉ .args .table) .now) (c₈ .top-of .ensures .0) (c₇ .past-j1 .ensures) _ (c₆ .touch .ensures) _ (c₅ .not-own .ensures) _ (c₄ .if1 .left)
           (sym (c₃ .is-process .ensures) ∙ (c₂ .if2 .taken)) (c₁ .process-number .ensures .0),
       (c₁ .process-number .ensures .1),
     )
@@ -58,7 +58,7 @@ returns-2 c =
     let c₇ = c₆ .before in
     let c₈ = c₇ .before .before .before .before .before .before .before in
     let c₉ = c₈ .before .before .before in (
-      performed _ (c₉ .top-of .ensures) (c₈ .past-j1 .ensures) _ (c₇ .touch .ensures) _ (c₆ .not-own .ensures) _ _ (omega (arith, (c₈ .past-j1 .kept .0)))
+      performed _ (c₉ .top-of .ensures .0) (c₈ .past-j1 .ensures) _ (c₇ .touch .ensures) _ (c₆ .not-own .ensures) _ _ (omega (arith, (c₈ .past-j1 .kept .0)))
           (c₅ .if1 .left) (sym (c₄ .is-process .ensures) ∙ (c₃ .if2 .taken)) (c₂ .process-number .ensures .0) (c₁ .perform .ensures .0),
       (c₁ .perform .ensures .1),
     )
@@ -74,7 +74,7 @@ returns-3 c =
     let c₇ = c₆ .before .before .before .before .before .before .before in
     let c₈ = c₇ .before .before .before in
     let c₉ = c₈ .before .before .before .before in (
-      descended _ (c₈ .top-of .ensures) (c₇ .past-j1 .ensures) _ (c₆ .touch .ensures) _ (c₅ .not-own .ensures) _ _ _ (c₉ .pre .within) (omega arith)
+      descended _ (c₈ .top-of .ensures .0) (c₇ .past-j1 .ensures) _ (c₆ .touch .ensures) _ (c₅ .not-own .ensures) _ _ _ (c₉ .pre .within) (omega arith)
           (c₄ .if1 .left) (sym (c₃ .is-process .ensures) ∙ (c₂ .if2 .left)) (c₁ .descend .ensures),
       clean-as ((c₁ .descend .kept .0) ∙ (c₇ .past-j1 .kept .0)) (c₉ .pre .clean),
     )

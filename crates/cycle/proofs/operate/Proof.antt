@@ -23,7 +23,7 @@ returns-2 c =
     let c₁ = c .before .before .before .before in
     let c₂ = c₁ .before in
     let c₃ = c₂ .before .before .before .before .before .before .before .before .before in (
-      part-quiet _ _ _ _ (c₃ .pre .within) (c₂ .top-of .ensures) (from-none (most _ (omega arith) (c₁ .on-symbol .ensures))),
+      part-quiet _ _ _ _ (c₃ .pre .within) (c₂ .top-of .ensures .0) (from-none (most _ (omega arith) (c₁ .on-symbol .ensures))),
       clean-as (c₁ .on-symbol .kept .0) (c₃ .pre .clean),
     )
 

@@ -12,7 +12,7 @@ on-lines-requires c κs =
     let c₂ = c₁ .before in
     let c₃ = c₂ .before .before .before .before in (
       record { fits = omega (arith, (c₃ .pre .0 .room .fits)) },
-      (c₃ .pre .0 .names .low),
+      (c₃ .pre .0 .names),
       (c₃ .pre .0 .within),
       (c₂ .if1 .taken),
       (c₁ .if2 .taken),
@@ -31,7 +31,7 @@ by-family-requires c κs =
     let c₁ = c .before .before .before .before .before in
     let c₂ = c₁ .before .before .before .before in (
       (c₂ .pre .0 .clean),
-      (c₂ .pre .0 .room),
+      record { fits = c₂ .pre .0 .room .fits; ends = c .top-of .ensures .1 },
       (c₂ .pre .1),
       ⊎-elim (λ w. λ e. omega (arith, w .1 .left)) (λ w. λ e. omega (arith, w .left)) (c₁ .if1 .came),
       ⊎-elim (λ w. λ e. omega (arith, w .1 .left)) (λ w. λ e. omega (arith, w .left)) (c₁ .if1 .came),
@@ -43,7 +43,7 @@ returns-2 c =
     let c₁ = c .before .before .before .before in
     let c₂ = c₁ .before in
     let c₃ = c₂ .before .before .before .before .before .before .before .before .before in (
-      part-quiet _ _ _ _ (c₃ .pre .0 .within) (c₂ .top-of .ensures) (from-none (c₁ .by-family .ensures .0)),
+      part-quiet _ _ _ _ (c₃ .pre .0 .within) (c₂ .top-of .ensures .0) (from-none (c₁ .by-family .ensures .0)),
       (c₁ .by-family .ensures .1),
     )
 

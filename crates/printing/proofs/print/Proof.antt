@@ -1,5 +1,6 @@
 use mathlib.Core.Path.{refl, sym, _∙_}
 use native.Mathlib.Omega.{arith}
+use Rattle.regions.proofs.LentLaws.{told-from}
 use Rattle.undo.proofs.Leaves.{undone}
 use Rattle.undo.proofs.Verdict.{told-done}
 use Rattle.printing.proofs.PrintingLaws.{no-line, the-line, line-pops, line-fits}
@@ -15,6 +16,11 @@ returns c =
     let pre = c₂ .before .before .before .before .before .pre in
     no-line _ (pre .2) (omega arith) refl refl
     (λ rs k. line-pops (pre .3) (pre .4) (c₂ .end-line .ensures) _ (c₁ .refuse-if .ensures) (undone (omega arith)) (sym (k .top)))
+
+pop-requires : tie.Need-pop-requires
+pop-requires c κs =
+    let pre = c .before .before .before .before .before .before .before .before .before .before .pre in
+    record { fits = omega (arith, pre .0 .fits); ends = told-from (pre .1) }
 
 returns-2 : tie.Need-returns-2
 returns-2 c =
@@ -60,7 +66,7 @@ print-spec =
     returns
     (λ c. search needs)
     (λ c. search needs)
-    (λ c κs. search needs)
+    pop-requires
     (λ c. search needs)
     (λ c. search needs)
     returns-2

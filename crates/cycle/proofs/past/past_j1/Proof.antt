@@ -49,6 +49,7 @@ pop-requires c κs =
         (c₂ .loop .inv .3 .kept .count),
         (c₃ .pre .0 .fits),
       );
+      ends = c₃ .pre .0 .ends;
     }
 
 sub-turns : tie.Need-sub-turns Inv-loop μ-loop
