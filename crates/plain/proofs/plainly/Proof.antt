@@ -4,6 +4,8 @@ use native.Mathlib.Omega.{arith}
 use lib.ListN.{length, length-replicate}
 use Rattle.paper.specs.Limits.{largestN}
 use Rattle.undo.specs.Verdict.{told}
+use Rattle.undo.proofs.Leaves.{end-from}
+use Rattle.regions.specs.Table.{regionsOf}
 use Rattle.sound.specs.Asked.{Asks, Passed}
 use Rattle.sound.proofs.SoundLaws.{size-range}
 use Rattle.plain.specs.Numbers.{actionOf}
@@ -37,10 +39,14 @@ passed c =
 act-requires : tie.Need-act-requires
 act-requires c κs =
     let c₁ = c .before .before .before .before .before in
-    let n = size-range _ (passed (c₁ .before .before .before .before) .size) in
+    let p = passed (c₁ .before .before .before .before) in
+    let n = size-range _ (p .size) in
     let b = c₁ .begin in (
       record { large = n .0; small = n .1; sized = length-replicate {A = ℕ} largestN 0; unmarked = refl },
-      record { fits = omega (arith, n .1, b .ensures .count, b .kept, length-replicate {A = ℕ} places 0) },
+      record {
+        fits = omega (arith, n .1, b .ensures .count, b .kept, length-replicate {A = ℕ} places 0);
+        ends = end-from (regionsOf (start (c₁ .before .before .before .before) .args .regions)) (p .end);
+      },
     )
 
 settle-requires : tie.Need-settle-requires
