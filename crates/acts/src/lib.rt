@@ -220,15 +220,9 @@ pub fn name_of(top: u16, c: u16) -> Symbol
     ensures { λ r. ⌜ r ≡ nameBy top c ⌝ }
 {
     if reserved(top, c) {
-        return Symbol {
-            tag: Symbol::REGIONAL,
-            num: c,
-        };
+        return Symbol::regional(c);
     }
-    Symbol {
-        tag: Symbol::INTERNAL,
-        num: c,
-    }
+    Symbol::internal(c)
 }
 
 // The first cell of H2's list gets the number y.

@@ -21,8 +21,8 @@ pub const TERM: u64 = 0x2000000000000;
 
 pub const PROCESS: u64 = 0x3000000000000;
 
-// P 0, tag 4, SYMB 0, LINK 0.
-pub const EMPTY: u64 = 0x400000000;
+// P 0, the empty symbol, LINK 0.
+pub const EMPTY: u64 = (Symbol::EMPTY.tag as u64) * Q + (Symbol::EMPTY.num as u64) * SYMB;
 
 // The integer 0, as its value + 2^31.
 pub const ZERO: u32 = 0x80000000;

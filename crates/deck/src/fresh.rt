@@ -41,7 +41,8 @@ fn fresh_cell(size: usize, end: usize, c: usize) -> u64
         return cells::of_fields(0, 0, 0, 0);
     }
     if c == H2 {
-        return cells::of_fields(0, Symbol::INTERNAL, 0, next_free(size, end));
+        let x = Symbol::empty();
+        return cells::of_fields(0, x.tag, x.num, next_free(size, end));
     }
     if c < J0 {
         return cells::EMPTY;

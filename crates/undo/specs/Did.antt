@@ -27,7 +27,7 @@ Always e = Unit {0}
 abbrev pub Top : ℕ → Rest → Type 0
 Top top e = endOfRegions (e .regions) firstDeck ≡ top
 
--- room for k more writes, and `top` is where regions can end: a contract over `Top top` speaks of some state (Leaves.some-end)
+-- room for k more writes, and `top` is where regions can end: a contract over `Top top` speaks of some state (Leaves.suited)
 pub record Suits (l : List ℕ) (k top : ℕ) : Type 0 where
   pub fits : Fits l k
   pub ends : firstDeck ≤ top

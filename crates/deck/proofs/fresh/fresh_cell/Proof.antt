@@ -2,7 +2,8 @@ use native.Mathlib.Numerals.{add-one}
 use Rattle.paper.specs.Deck.{nextFree}
 use Rattle.paper.proofs.FreshLaws.{f-zero, f-H2, f-HW, f-J, f-region, f-free}
 use Rattle.deck.proofs.FreshLaws.{packs-as, empty-packs}
-use Rattle.paper.specs.Cell.{word, free, emptyWord}
+use Rattle.paper.specs.declared.Symbol.{Symbol}
+use Rattle.paper.specs.Cell.{word, free, mkWord, emptyWord}
 use mathlib.Core.Path.{ap, _∙_, sym}
 use borrow.Author.Needs.{needs}
 use Rattle.deck.proofs.fresh.fresh_cell.Statement.{statement}
@@ -15,7 +16,10 @@ returns-2 : tie.Need-returns-2
 returns-2 c =
     let c₁ = c .before in
     let c₂ = c₁ .before in
-    packs-as (f-H2 _ _ _ (c₂ .if2 .taken) ∙ ap (λ n. word (emptyWord n)) (sym (c₁ .next-free .ensures))) (c .of-fields2 .ensures)
+    packs-as
+    (f-H2 _ _ _ (c₂ .before .if2 .taken) ∙ ap (λ n. word (emptyWord n)) (sym (c₁ .next-free .ensures))
+    ∙ ap (λ (x : Symbol). word (mkWord 0 (x .tag) (x .num) (c₁ .next-free .result))) (sym (c₂ .empty .ensures)))
+    (c .of-fields2 .ensures)
 
 returns-3 : tie.Need-returns-3
 returns-3 c =
@@ -46,6 +50,7 @@ fresh-cell-spec =
     (tie.spec
     (λ c κs. search needs)
     returns
+    (λ c κs. search needs)
     (λ c κs. search needs)
     (λ c κs. search needs)
     returns-2
