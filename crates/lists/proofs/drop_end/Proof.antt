@@ -25,7 +25,10 @@ at-end-requires c κs =
     let c₁ = c .before .before .before .before .before .before .before in
     let c₂ = c₁ .before .before .before .before .before .before .before in
     let c₃ = c₂ .before .before .before .before .before .before in
-    record { fits = omega (arith, writes-most ((c₃ .args .w0) / 65536 % 65536), (c₂ .put .ensures .kept .count), (c₁ .release .ensures .kept .count)); ends = omega arith }
+    record {
+      fits = omega (arith, writes-most ((c₃ .args .w0) / 65536 % 65536), (c₂ .put .ensures .kept .count), (c₁ .release .ensures .kept .count));
+      ends = omega arith;
+    }
 
 returns : tie.Need-returns
 unfolding dropEnd

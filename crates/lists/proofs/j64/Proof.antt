@@ -23,7 +23,10 @@ pops2-requires c κs =
     let c₁ = c .before .before .before .before .before .before in
     let c₂ = c₁ .before .before .before .before .before .before .before .before .before in
     let c₃ = c₂ .before .before .before .before .before .before in
-    record { fits = omega (arith, (c₃ .pre .fits), writes-most ((c₂ .below .result .x) / 65536 % 65536), (c₁ .link-below .ensures .kept .count)); ends = c₃ .pre .ends }
+    record {
+      fits = omega (arith, (c₃ .pre .fits), writes-most ((c₂ .below .result .x) / 65536 % 65536), (c₁ .link-below .ensures .kept .count));
+      ends = c₃ .pre .ends;
+    }
 
 returns : tie.Need-returns
 unfolding J64
