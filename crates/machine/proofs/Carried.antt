@@ -254,6 +254,11 @@ module _ (regions : Regions) (budget : ℕ) (s out : List ℕ) {r : Ran} {s′ o
       go (unsound e) = (cells-are e, out-is e, cycles-are e, len-is e)
       go (ran size f k e) = absurd (cycles-answer budget 0 (given regions s size f budget out) (subst Before (answer-is e) h))
 
+  -- and of a sound store, N and the budget in range, neither is the answer
+  pub run-answers : sizeFits (length s) ≡ true → storeSound regions s ≡ true → budget ≤ largestBudget → Before (r .answer) → ⊥
+  run-answers size f k h =
+      cycles-answer budget 0 (given regions s size f budget out) (subst Before (answer-is (run-cycles regions budget s out size k f)) h)
+
   -- the lines are the first bytes of the room; "output bytes past the lines keep what they held"
   pub run-keeps-past : (drop (r .len) out′ ≡ drop (r .len) out) × (r .len ≤ length out) × (length out′ ≡ length out)
   run-keeps-past = go (way regions budget s out)

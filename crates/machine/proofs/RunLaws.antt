@@ -113,9 +113,9 @@ module _ (r : Regions) (budget : ℕ) (s out : List ℕ) where
     sized : sizeFits (length (unpacked s)) ≡ true
     sized = ap sizeFits (unpacked-length s) ∙ size
 
-    passes : storeSound r s ≡ true → inNumbers out (run budget (stateWith r s [] (length out))) ≡ runOn r budget s out
+    pub run-passes : storeSound r s ≡ true → inNumbers out (run budget (stateWith r s [] (length out))) ≡ runOn r budget s out
     unfolding runOn
-    passes f = rw (fit r s size f, runOn)
+    run-passes f = rw (fit r s size f, runOn)
 
     abbrev st : State
     st = stateWith r s [] (length out)
@@ -139,7 +139,7 @@ module _ (r : Regions) (budget : ℕ) (s out : List ℕ) where
         go false f = run-unsound f
         go true f =
             ap (λ x. untouched NotSound x out) (sym (packed-unpacked s (passed-formed r s f)))
-            ∙ ap (inNumbers out) (sym (says-not (no (sound st)))) ∙ passes f
+            ∙ ap (inNumbers out) (sym (says-not (no (sound st)))) ∙ run-passes f
 
     pub run-cycles : budget ≤ largestBudget → storeSound r s ≡ true → cyclesOn (regionsOf r) budget s out ≡ runOn r budget s out
-    run-cycles h f = ap (inNumbers out) (sym (says-goes (rw (passed-sound r s [] (length out) f) (le-leb budget largestBudget h)))) ∙ passes f
+    run-cycles h f = ap (inNumbers out) (sym (says-goes (rw (passed-sound r s [] (length out) f) (le-leb budget largestBudget h)))) ∙ run-passes f

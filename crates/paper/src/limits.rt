@@ -25,11 +25,21 @@ pub const DEEPEST: usize = 64;
 // "budget over 1,000,000" is refused.
 pub const LARGEST_BUDGET: u32 = 1000000;
 
+// The program's: "It reads at most 16,384 deck bytes"; "4,096 cells"; "16,384 bytes of output room".
+pub const PROGRAM_DECK: usize = 16384;
+
+pub const PROGRAM_CELLS: usize = 4096;
+
+pub const PROGRAM_ROOM: usize = 16384;
+
 // The letters of deck regions: all but H, W and J.
 pub const MANY_REGIONS: usize = 23;
 
 // The longest line with its line feed: `-` and ten digits.
 pub const LONGEST_LINE: usize = 12;
+
+// The program prints its lines and the answer's.
+pub const LONGEST_PRINTOUT: usize = PROGRAM_ROOM + LONGEST_LINE;
 
 // H0 to H9 are cells 1 to 10, W0 to W9 11 to 20, J0 to J199 21 to 220.
 pub const H0: u16 = 1;

@@ -9,7 +9,7 @@ use native.Mathlib.Omega.{arith}
 use native.Mathlib.Numerals.{add-one}
 use borrow.Author.Tests.{lt-ltb, le-ltb, eq-eqb, ne-eqb}
 use lib.Dec.{ltb}
-use lib.ListN.{length, getD, take, set, length-append, length-set}
+use lib.ListN.{length, getD, take, drop, set, length-append, length-set}
 use lib.Seq.{take-suc-set, paste, paste-suc}
 use Rattle.paper.specs.declared.Symbol.{Symbol}
 use Rattle.paper.specs.Region.{Region, lettersOf}
@@ -19,7 +19,7 @@ use Rattle.cells.proofs.Laws.{value-low, value-high}
 use Rattle.regions.specs.declared.Named.{Named}
 use Rattle.regions.specs.declared.Named.the-variants.{As, Nothing}
 use Rattle.regions.specs.Lent.{lettersIn}
-use Rattle.printing.specs.Text.{Writes, Text}
+use Rattle.printing.specs.Text.{Writes, Text, Puts}
 
 pub writes-none : (l : List ℕ) (at : ℕ) → Writes l at [] l at
 writes-none l at = record { text = sym (append-nil (take at l)); end = omega arith; sized = refl }
@@ -109,3 +109,13 @@ module _ (rs : List Region) (x : Symbol) where
 pub paste-more : (d : List ℕ) (at : ℕ) (s : List ℕ) (j : ℕ) {l : List ℕ} → at + j < length d → j < length s → l ≡ paste d at s j
     → set l (at + j) (getD s j 0) ≡ paste d at s (j + 1)
 paste-more d at s j h g e = rw (e, add-one) (paste-suc d at s j 0 h g)
+
+-- a text with its line feed, copied out
+pub puts-line : {l l₁ l₂ : List ℕ} {e len : ℕ} {t : List ℕ} (d : List ℕ) (at : ℕ) {d′ : List ℕ} {r : ℕ} → Text l t l₁ e → Writes l₁ e (10 ∷ []) l₂ len
+    → r ≡ at + len → d′ ≡ paste d at l₂ len → Puts d at (t ++ (10 ∷ [])) d′ r
+puts-line {len = len} {t = t} d at text feed p q =
+    let w = writes-more (text .writes) feed in
+    record {
+      end = omega (arith, p, w .end);
+      bytes = q ∙ ap (λ (x : List ℕ). take at d ++ x ++ drop (at + len) d) (w .text) ∙ ap (λ (k : ℕ). take at d ++ (t ++ (10 ∷ [])) ++ drop k d) (sym p);
+    }

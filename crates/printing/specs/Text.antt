@@ -2,7 +2,7 @@
 use Prim.Native.Nat.{ℕ, _+_, _≤_}
 use mathlib.Core.Path.{_≡_}
 use mathlib.Core.List.{List, _++_}
-use lib.ListN.{length, take}
+use lib.ListN.{length, take, drop}
 
 -- from `at` on: the first r are those before, then t
 pub record Writes (l : List ℕ) (at : ℕ) (t : List ℕ) (l′ : List ℕ) (r : ℕ) : Type 0 where
@@ -14,3 +14,8 @@ pub record Writes (l : List ℕ) (at : ℕ) (t : List ℕ) (l′ : List ℕ) (r 
 pub record Text (l t l′ : List ℕ) (r : ℕ) : Type 0 where
   pub writes : Writes l 0 t l′ r
   pub short : r ≤ 11
+
+-- t stands in d from `at` on, up to r; the other bytes are as they were
+pub record Puts (d : List ℕ) (at : ℕ) (t : List ℕ) (d′ : List ℕ) (r : ℕ) : Type 0 where
+  pub end : r ≡ at + length t
+  pub bytes : d′ ≡ take at d ++ t ++ drop r d

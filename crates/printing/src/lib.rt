@@ -7,11 +7,12 @@ ghost use lib.Seq.{paste};
 ghost use Rattle.paper.specs.Limits.{longestLine};
 ghost use Rattle.paper.specs.Region.{lettersOf};
 ghost use Rattle.paper.specs.Print.{digits, digitsBy, integerText, cellText, symbolText};
+ghost use Rattle.paper.specs.Program.{answerLine};
 ghost use Rattle.paper.specs.Process.{J152, J153, perform, then as andThen, goesOn};
 ghost use Rattle.cells.specs.Layout.{valueOf};
 ghost use Rattle.regions.specs.Lent.{rowsOf, Told};
 ghost use Rattle.undo.specs.Log.{Room};
-ghost use Rattle.printing.specs.Text.{Writes, Text};
+ghost use Rattle.printing.specs.Text.{Writes, Text, Puts};
 ghost use Rattle.printing.specs.Telling.{printPop, Prints};
 use paper::Symbol;
 use paper::limits;
@@ -124,6 +125,17 @@ fn write_line(out: &mut [u8], at: usize, line: &Line, len: usize) -> usize
         i += 1;
     }
     at + len
+}
+
+// A number in a line of its own, from byte `at` on.
+pub fn number_line(out: &mut [u8], at: usize, n: u32) -> usize
+    requires { ⌜ at + longestLine ≤ length (now out) ⌝ }
+    ensures { λ r. ⌜ Puts (now (out .entry)) at (answerLine n) (now (out .exit)) r ⌝ }
+{
+    let mut line: Line = [0; limits::LONGEST_LINE];
+    let end = number(&mut line, n);
+    let len = end_line(&mut line, end);
+    write_line(out, at, &line, len)
 }
 
 // The first n bytes are printed as a line, and H0 popped: the line goes out when both are sure.

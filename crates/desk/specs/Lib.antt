@@ -1,0 +1,2 @@
+-- What the contracts of the program's call say.
+pub mod Page
