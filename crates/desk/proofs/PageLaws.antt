@@ -36,10 +36,16 @@ drop-zeros zero n = let e : n ≡ n - 0 = omega arith in ap (λ k. replicate k 0
 drop-zeros (suc i) zero = let e : 0 ≡ 0 - suc i = omega arith in ap (λ k. replicate k 0) e
 drop-zeros (suc i) (suc n) = let e : n - i ≡ suc n - suc i = omega arith in drop-zeros i n ∙ ap (λ k. replicate k 0) e
 
+-- the text is within the page
+pub text-within : (t : List ℕ) {p : Printout} → p ≡ printed t → p .n ≤ length (p .bytes)
+unfolding printed
+text-within t e = rw e (simp length-append (omega arith))
+
 -- the answer's line after the lines
 pub page-answered : (page : List ℕ) (len a : ℕ) {n : ℕ} {bytes : List ℕ} → len ≤ programRoom → length page ≡ longestPrintout
     → drop len page ≡ replicate (longestPrintout - len) 0 → Puts page len (answerLine a) bytes n
     → record { n = n; bytes = bytes } ≡ printed (take len page ++ answerLine a)
+unfolding printed
 page-answered page len a {n} {bytes} few sized rest p =
     let line = answerLine a in
     let t = take len page ++ line in

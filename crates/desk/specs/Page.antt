@@ -9,7 +9,7 @@ use Rattle.machine.specs.Numbers.{Numbers}
 use Rattle.desk.specs.declared.Printout.{Printout}
 
 -- a text, and zeros up to the longest printout
-abbrev pub printed : List ℕ → Printout
+unfoldable pub printed : List ℕ → Printout
 printed t = record { n = length t; bytes = t ++ replicate (longestPrintout - length t) 0 }
 
 -- the lines that a run left, then the answer's
