@@ -1,0 +1,2 @@
+-- What is promised of the public calls, each statement to be read without its proof.
+pub mod OneOutcome

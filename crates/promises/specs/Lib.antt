@@ -1,0 +1,1 @@
+-- The words of the promises that no contract has.
