@@ -135,28 +135,28 @@ cut (suc left) n t h = byFinish (isFinished t) refl (λ u. cut left (suc n) u)
 
 -- a store that passed the test
 module _ (regions : Regions) (s : List ℕ) (size : sizeFits (length s) ≡ true) (passes : storeSound regions s ≡ true) where
-  runnable : (lines : List ℕ) (room : ℕ) → Runnable (stateWith regions s lines room)
+  pub runnable : (lines : List ℕ) (room : ℕ) → Runnable (stateWith regions s lines room)
   runnable lines room = record { size = ap sizeFits (unpacked-length s) ∙ size; test = passed-sound regions s lines room passes }
 
-  tabled : regions .n ≤ 23
+  pub tabled : regions .n ≤ 23
   unfolding storeSound
   tabled = leb-true (regions .n) 23 (and-true (leb (regions .n) 23) _ (and-true _ _ passes .0) .0)
 
   module _ (budget : ℕ) (out : List ℕ) where
-    abbrev given : State
+    abbrev pub given : State
     given = stateWith regions s [] (length out)
 
-    abbrev after : State
+    abbrev pub after : State
     after = runFrom budget 0 given .state
 
-    tested : Tested given
+    pub tested : Tested given
     tested = sound-from given (runnable [] (length out) .size) (runnable [] (length out) .test)
 
-    sound-after : Sound (tested .frame) after
+    pub sound-after : Sound (tested .frame) after
     sound-after = run-sound (tested .frame) budget 0 given (tested .isSound)
 
     -- the numbers afterwards are those of the definition's state
-    numbered : stateWith regions (packed (after .cells)) (after .lines) (after .room) ≡ after
+    pub numbered : stateWith regions (packed (after .cells)) (after .lines) (after .room) ≡ after
     numbered = rw (unpacked-packed (after .cells) (sound-fits (tested .frame) after sound-after), sym (tested .rs-is), sym (sound-after .regions))
 
     passes-after : storeSound regions (packed (after .cells)) ≡ true
@@ -172,13 +172,13 @@ module _ (regions : Regions) (s : List ℕ) (size : sizeFits (length s) ≡ true
     lines-within = omega (arith, sound-after .lines ∙ tested .out-is)
 
 -- the three ways of a run
-data Way (regions : Regions) (budget : ℕ) (s out : List ℕ) : Type 0 where
+pub data Way (regions : Regions) (budget : ℕ) (s out : List ℕ) : Type 0 where
   small : untouched BadSize s out ≡ runOn regions budget s out → Way regions budget s out
   unsound : untouched NotSound s out ≡ runOn regions budget s out → Way regions budget s out
   ran : sizeFits (length s) ≡ true → storeSound regions s ≡ true → budget ≤ largestBudget
       → cyclesOn (regionsOf regions) budget s out ≡ runOn regions budget s out → Way regions budget s out
 
-way : (regions : Regions) (budget : ℕ) (s out : List ℕ) → Way regions budget s out
+pub way : (regions : Regions) (budget : ℕ) (s out : List ℕ) → Way regions budget s out
 way regions budget s out = bySize (sizeFits (length s)) refl
   where
     byBudget : sizeFits (length s) ≡ true → storeSound regions s ≡ true → (b : Bool) → leb budget largestBudget ≡ b → Way regions budget s out
@@ -207,19 +207,19 @@ one-outcome regions budget s out p q =
 
 -- Whatever a run answers and leaves.
 module _ (regions : Regions) (budget : ℕ) (s out : List ℕ) {r : Ran} {s′ out′ : List ℕ} (allowed : numbers r s′ out′ ≡ runOn regions budget s out) where
-  answer-is : {n : Numbers} → n ≡ runOn regions budget s out → r .answer ≡ n .answer
+  pub answer-is : {n : Numbers} → n ≡ runOn regions budget s out → r .answer ≡ n .answer
   answer-is e = ap (λ (n : Numbers). n .answer) (allowed ∙ sym e)
 
-  cells-are : {n : Numbers} → n ≡ runOn regions budget s out → s′ ≡ n .cells
+  pub cells-are : {n : Numbers} → n ≡ runOn regions budget s out → s′ ≡ n .cells
   cells-are e = ap (λ (n : Numbers). n .cells) (allowed ∙ sym e)
 
-  out-is : {n : Numbers} → n ≡ runOn regions budget s out → out′ ≡ n .out
+  pub out-is : {n : Numbers} → n ≡ runOn regions budget s out → out′ ≡ n .out
   out-is e = ap (λ (n : Numbers). n .out) (allowed ∙ sym e)
 
-  cycles-are : {n : Numbers} → n ≡ runOn regions budget s out → r .cycles ≡ n .cycles
+  pub cycles-are : {n : Numbers} → n ≡ runOn regions budget s out → r .cycles ≡ n .cycles
   cycles-are e = ap (λ (n : Numbers). n .cycles) (allowed ∙ sym e)
 
-  len-is : {n : Numbers} → n ≡ runOn regions budget s out → r .len ≡ n .len
+  pub len-is : {n : Numbers} → n ≡ runOn regions budget s out → r .len ≡ n .len
   len-is e = ap (λ (n : Numbers). n .len) (allowed ∙ sym e)
 
   -- a store that passed the test passes it afterwards

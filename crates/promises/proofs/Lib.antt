@@ -1,2 +1,3 @@
 -- What is promised of the public calls, each statement to be read without its proof.
 pub mod OneOutcome
+pub mod EveryCycle

@@ -1,1 +1,2 @@
 -- The words of the promises that no contract has.
+pub mod Cycles

@@ -1,0 +1,127 @@
+-- Demands 1 and 2 of the call machine::run, cycle by cycle: "After every cycle the free cells are exactly those on the H2 list, each once."
+-- A run with a budget of k is what shows the store after k cycles. Each statement can be read without its proof.
+use Prim.Native.Nat.{ℕ, zero, suc, _+_, _-_, _≤_}
+use mathlib.Core.Path.{_≡_, refl, sym, ap, subst, _∙_}
+use mathlib.Core.Bool.{true}
+use mathlib.Core.List.{List, [], _++_}
+use mathlib.Core.Logic.{_⊎_, inl, inr}
+use mathlib.Core.Option.{some}
+use native.Mathlib.Omega.{arith}
+use lib.ListN.{length, take, drop}
+use lib.Seq.{take-append-seam}
+use Rattle.paper.specs.Limits.{largestBudget}
+use Rattle.paper.specs.Answer.{runNumber}
+use Rattle.paper.specs.Cell.{State, sizeFits}
+use Rattle.paper.specs.Run.{Outcome, Turn, finishes, stops, continues, turn, onTurn, runFrom}
+use Rattle.paper.proofs.Demand1.{FreeListed}
+use Rattle.regions.specs.declared.Regions.{Regions}
+use Rattle.regions.specs.Table.{regionsOf}
+use Rattle.sound.specs.Store.{stateWith, storeSound}
+use Rattle.cells.specs.Bridge.{stateOf}
+use Rattle.cycle.specs.Turns.{stateAt}
+use Rattle.machine.specs.declared.Ran.{Ran}
+use Rattle.machine.specs.Numbers.{numbers, cyclesOn, runOn}
+use Rattle.machine.proofs.RunLaws.{run-cycles}
+use Rattle.machine.proofs.Carried.{Before, Way, small, unsound, ran, way, given, after, tested, sound-after, numbered, answer-is, cells-are, out-is}
+use Rattle.machine.proofs.Carried.{cycles-are, len-is, run-keeps-sound, run-keeps-past, run-lists-free, run-within-budget}
+use Rattle.promises.specs.Cycles.{afterCycles}
+
+-- a turn that goes on
+module _ (t u : State) (e : turn t ≡ continues u) where
+  run-next : (left n : ℕ) → runFrom (suc left) n t ≡ runFrom left (suc n) u
+  unfolding runFrom onTurn
+  run-next left n = rw (e, runFrom)
+
+  cycles-next : (k : ℕ) → afterCycles (suc k) t ≡ afterCycles k u
+  unfolding afterCycles onTurn
+  cycles-next k = rw (e, afterCycles)
+
+-- so many cycles given as the budget are done, and come where so many cycles come
+record Shown (k n : ℕ) (t : State) : Type 0 where
+  cycles : runFrom k n t .cycles ≡ n + k
+  after : afterCycles k t ≡ some (runFrom k n t .state)
+
+-- of as many as a run has done, or fewer
+shown : (left n k : ℕ) (t : State) → n + k ≤ runFrom left n t .cycles → Shown k n t
+unfolding runFrom onTurn afterCycles
+shown left n zero t h = record { cycles = omega arith; after = refl }
+shown zero n (suc k) t h = absurd (omega (arith, h))
+shown (suc left) n (suc k) t h = go (turn t) refl (λ u. shown left (suc n) k u)
+  where
+    go : (x : Turn) → turn t ≡ x → ((u : State) → suc n + k ≤ runFrom left (suc n) u .cycles → Shown k (suc n) u) → Shown (suc k) n t
+    go finishes e f = let z : n + suc k ≤ n = rw (e, runFrom) at h in absurd (omega arith)
+    go (stops q) e f = let z : n + suc k ≤ n = rw (e, runFrom) at h in absurd (omega arith)
+    go (continues u) e f =
+        let l = ap (λ (o : Outcome). o .cycles) (run-next t u e left n) in
+        let r = f u (omega (arith, h, l)) in
+        let o = run-next t u e k n in
+        record {
+          cycles = ap (λ (o : Outcome). o .cycles) o ∙ r .cycles ∙ (omega arith);
+          after = cycles-next t u e k ∙ r .after ∙ ap (λ (o : Outcome). some (o .state)) (sym o);
+        }
+
+-- numbers and bytes that a run left are those of the state that its cycles came to
+module _ (regions : Regions) (s out : List ℕ) (size : sizeFits (length s) ≡ true) (passes : storeSound regions s ≡ true) (k : ℕ) (few : k ≤ largestBudget)
+    {r : Ran} {s′ out′ : List ℕ} (allowed : numbers r s′ out′ ≡ runOn regions k s out)
+  where
+    abbrev came : State
+    came = after regions s size passes k out
+
+    comes : cyclesOn (regionsOf regions) k s out ≡ runOn regions k s out
+    comes = run-cycles regions k s out size few passes
+
+    lines-are : take (r .len) out′ ≡ came .lines
+    lines-are = rw (out-is regions k s out allowed comes, len-is regions k s out allowed comes) (take-append-seam (came .lines) _)
+
+    room-is : length out′ - r .len ≡ came .room
+    room-is = omega (
+      arith,
+      run-keeps-past regions k s out allowed .2,
+      len-is regions k s out allowed comes,
+      sound-after regions s size passes k out .lines,
+      tested regions s size passes k out .out-is,
+    )
+
+    state-is : stateAt (regionsOf regions) s′ out′ (r .len) ≡ came
+    state-is =
+        (λ i. stateOf (record { regions = regionsOf regions; lines = lines-are i; room = room-is i }) (cells-are regions k s out allowed comes i))
+        ∙ numbered regions s size passes k out
+
+-- What a run with a budget of k left of the numbers s and the bytes out, where k cycles were done
+pub record AfterCycles (regions : Regions) (s out : List ℕ) (k : ℕ) (r : Ran) (s′ out′ : List ℕ) : Type 0 where
+  -- it has done k cycles, and numbers and lines are those of the definition's state after k cycles; no other byte has changed
+  pub cycles : r .cycles ≡ k
+  pub after : afterCycles k (stateWith regions s [] (length out)) ≡ some (stateAt (regionsOf regions) s′ out′ (r .len))
+  pub past : drop (r .len) out′ ≡ drop (r .len) out
+  -- "the free cells are exactly those on the H2 list, each once", and it passes the test again
+  pub listed : FreeListed (stateWith regions s′ [] 0)
+  pub sound : storeSound regions s′ ≡ true
+
+-- Whatever a run answers, if that is neither 1 nor 20
+module _ (regions : Regions) (budget : ℕ) (s out : List ℕ) {r : Ran} {s′ out′ : List ℕ} (allowed : numbers r s′ out′ ≡ runOn regions budget s out)
+    (began : Before (r .answer) → ⊥)
+  where
+    -- it was given a store that passes the test, and no more than the largest budget
+    pub was-sound : (sizeFits (length s) ≡ true) × (storeSound regions s ≡ true) × (budget ≤ largestBudget)
+    was-sound = go (way regions budget s out)
+      where
+        go : Way regions budget s out → (sizeFits (length s) ≡ true) × (storeSound regions s ≡ true) × (budget ≤ largestBudget)
+        go (small e) = absurd (began (inl (ap runNumber (answer-is regions budget s out allowed e))))
+        go (unsound e) = absurd (began (inr (ap runNumber (answer-is regions budget s out allowed e))))
+        go (ran size f k e) = (size, f, k)
+
+    -- after each of its cycles: of every outcome of the run that is given as many cycles as its budget
+    pub every-cycle : (k : ℕ) → k ≤ r .cycles → {rₖ : Ran} {sₖ outₖ : List ℕ} → numbers rₖ sₖ outₖ ≡ runOn regions k s out
+        → AfterCycles regions s out k rₖ sₖ outₖ
+    every-cycle k h a =
+        let (size, f, few) = was-sound in
+        let fewer : k ≤ largestBudget = omega (arith, h, few, run-within-budget regions budget s out allowed) in
+        let done = cycles-are regions budget s out allowed (run-cycles regions budget s out size few f) in
+        let w = shown budget 0 k (given regions s size f budget out) (omega (arith, h, done)) in
+        record {
+          cycles = cycles-are regions k s out a (run-cycles regions k s out size fewer f) ∙ w .cycles ∙ (omega arith);
+          after = w .after ∙ ap some (sym (state-is regions s out size f k fewer a));
+          past = run-keeps-past regions k s out a .0;
+          listed = run-lists-free regions k s out a size f;
+          sound = run-keeps-sound regions k s out a f;
+        }
