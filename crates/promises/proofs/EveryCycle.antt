@@ -2,29 +2,40 @@
 -- A run with a budget of k is what shows the store after k cycles. Each statement can be read without its proof.
 use Prim.Native.Nat.{ℕ, zero, suc, _+_, _-_, _≤_}
 use mathlib.Core.Path.{_≡_, refl, sym, ap, subst, _∙_}
-use mathlib.Core.Bool.{true}
+use mathlib.Core.Bool.{Bool, true, false}
 use mathlib.Core.List.{List, [], _++_}
 use mathlib.Core.Logic.{_⊎_, inl, inr}
 use mathlib.Core.Option.{some}
 use native.Mathlib.Omega.{arith}
 use lib.ListN.{length, take, drop}
 use lib.Seq.{take-append-seam}
+use Rattle.paper.specs.declared.Refusal.{Refusal}
+use Rattle.paper.specs.declared.RunAnswer.{RunAnswer}
+use Rattle.paper.specs.declared.RunAnswer.the-variants.{Finished, BudgetSpent, Refused}
 use Rattle.paper.specs.Limits.{largestBudget}
 use Rattle.paper.specs.Answer.{runNumber}
 use Rattle.paper.specs.Cell.{State, sizeFits}
-use Rattle.paper.specs.Run.{Outcome, Turn, finishes, stops, continues, turn, onTurn, runFrom}
-use Rattle.paper.proofs.Demand1.{FreeListed}
+use Rattle.paper.specs.Act.{Res, done, refused}
+use Rattle.paper.specs.Cycle.{cycle}
+use Rattle.paper.specs.Run.{Outcome, outcome, isFinished, Turn, finishes, stops, continues, alone, joined, afterCycle, turn, onTurn, runFrom}
+use Rattle.paper.specs.Sound.{sound}
+use Rattle.paper.proofs.Safe.{After}
+use Rattle.paper.proofs.Demand1.{Runnable, FreeListed, Left, free-listed, every-cycle as every-one}
 use Rattle.regions.specs.declared.Regions.{Regions}
 use Rattle.regions.specs.Table.{regionsOf}
 use Rattle.sound.specs.Store.{stateWith, storeSound}
+use Rattle.sound.proofs.SoundLaws.{passed-formed, in-form}
+use Rattle.cells.specs.Pack.{AllFormed}
 use Rattle.cells.specs.Bridge.{stateOf}
-use Rattle.cycle.specs.Turns.{stateAt}
+use Rattle.cells.proofs.Store.{unpacked-length}
+use Rattle.cycle.specs.declared.Cycled.the-variants.{Progress, Refused as Stopped}
+use Rattle.cycle.specs.Turns.{stateAt, cycled, Came, Turns}
 use Rattle.machine.specs.declared.Ran.{Ran}
 use Rattle.machine.specs.Numbers.{numbers, cyclesOn, runOn}
-use Rattle.machine.proofs.RunLaws.{run-cycles}
+use Rattle.machine.proofs.RunLaws.{run-finishes, run-spent, run-cycles}
 use Rattle.machine.proofs.Carried.{Before, Way, small, unsound, ran, way, given, after, tested, sound-after, numbered, answer-is, cells-are, out-is}
-use Rattle.machine.proofs.Carried.{cycles-are, len-is, run-keeps-sound, run-keeps-past, run-lists-free, run-within-budget}
-use Rattle.promises.specs.Cycles.{afterCycles}
+use Rattle.machine.proofs.Carried.{runnable, tabled, cycles-are, len-is, run-keeps-sound, run-keeps-past, run-lists-free, run-within-budget}
+use Rattle.promises.specs.Cycles.{afterCycles, EndsAs}
 
 -- a turn that goes on
 module _ (t u : State) (e : turn t ≡ continues u) where
@@ -59,6 +70,47 @@ shown (suc left) n (suc k) t h = go (turn t) refl (λ u. shown left (suc n) k u)
           cycles = ap (λ (o : Outcome). o .cycles) o ∙ r .cycles ∙ (omega arith);
           after = cycles-next t u e k ∙ r .after ∙ ap (λ (o : Outcome). some (o .state)) (sym o);
         }
+
+-- a run ends where its cycles have come, and for the reason that its answer says
+record Ended (left n : ℕ) (t : State) (o : Outcome) : Type 0 where
+  done : ℕ
+  cycles : o .cycles ≡ n + done
+  after : afterCycles done t ≡ some (o .state)
+  why : EndsAs (n + left) (o .cycles) (o .state) (o .answer)
+
+module _ (n : ℕ) (t : State) where
+  at-once : (left : ℕ) (a : RunAnswer) → runFrom left n t ≡ outcome a n t → EndsAs (n + left) n t a → Ended left n t (runFrom left n t)
+  unfolding afterCycles
+  at-once left a e w = subst (Ended left n t) (sym e) (record { done = 0; cycles = omega arith; after = refl; why = w })
+
+  at-cycle : (j : ℕ) → isFinished t ≡ false → ((u : State) → Ended j (suc n) u (runFrom j (suc n) u)) → Ended (suc j) n t (runFrom (suc j) n t)
+  unfolding runFrom turn onTurn afterCycle
+  at-cycle j p f = go (cycle (alone t)) refl
+    where
+      go : (x : Res State Refusal (Unit {0})) → cycle (alone t) ≡ x → Ended (suc j) n t (runFrom (suc j) n t)
+      go (refused e) q = at-once (suc j) (Refused e) (rw (p, turn, q)) (p, omega arith, q)
+      go (done a v) q =
+          let u = joined t v in
+          let e : turn t ≡ continues u = rw (p, turn, q) in
+          let r = f u in
+          let m : suc n + j ≡ n + suc j = omega arith in
+          subst (Ended (suc j) n t) (sym (run-next t u e j n)) (record {
+            done = suc (r .done);
+            cycles = r .cycles ∙ (omega arith);
+            after = cycles-next t u e (r .done) ∙ r .after;
+            why = subst (λ b. EndsAs b (runFrom j (suc n) u .cycles) (runFrom j (suc n) u .state) (runFrom j (suc n) u .answer)) m (r .why);
+          })
+
+  by-finish : (left : ℕ) → (isFinished t ≡ false → Ended left n t (runFrom left n t)) → Ended left n t (runFrom left n t)
+  by-finish left f = go (isFinished t) refl
+    where
+      go : (b : Bool) → isFinished t ≡ b → Ended left n t (runFrom left n t)
+      go true p = at-once left Finished (run-finishes t n left p) p
+      go false p = f p
+
+ended : (left n : ℕ) (t : State) → Ended left n t (runFrom left n t)
+ended zero n t = by-finish n t 0 (λ p. at-once n t 0 BudgetSpent (run-spent t n p) (p, omega arith))
+ended (suc j) n t = by-finish n t (suc j) (λ p. at-cycle n t j p (λ u. ended j (suc n) u))
 
 -- numbers and bytes that a run left are those of the state that its cycles came to
 module _ (regions : Regions) (s out : List ℕ) (size : sizeFits (length s) ≡ true) (passes : storeSound regions s ≡ true) (k : ℕ) (few : k ≤ largestBudget)
@@ -125,3 +177,55 @@ module _ (regions : Regions) (budget : ℕ) (s out : List ℕ) {r : Ran} {s′ o
           listed = run-lists-free regions k s out a size f;
           sound = run-keeps-sound regions k s out a f;
         }
+
+    -- it ends in the definition's state after as many cycles as it says, and for the reason that it says
+    pub run-ends : (afterCycles (r .cycles) (stateWith regions s [] (length out)) ≡ some (stateAt (regionsOf regions) s′ out′ (r .len)))
+        × EndsAs budget (r .cycles) (stateAt (regionsOf regions) s′ out′ (r .len)) (r .answer)
+    run-ends =
+        let (size, f, few) = was-sound in
+        let e = ended budget 0 (given regions s size f budget out) in
+        let w = run-cycles regions budget s out size few f in
+        let t = state-is regions s out size f budget few allowed in
+        let c = cycles-are regions budget s out allowed w in
+        let m : e .done ≡ r .cycles = omega (arith, c, e .cycles) in
+        let b : 0 + budget ≡ budget = omega arith in (
+          ap (λ k. afterCycles k (given regions s size f budget out)) (sym m) ∙ e .after ∙ ap some (sym t),
+          rw (t, c, answer-is regions budget s out allowed w) (rw b at (e .why)),
+        )
+
+-- One call of cycle::cycle, on numbers that pass the test: of every outcome that its contract `Turns` allows
+module _ (regions : Regions) (s out : List ℕ) (at : ℕ) (size : sizeFits (length s) ≡ true) (passes : storeSound regions s ≡ true)
+  where
+    -- what the store after an accepted cycle is to the test
+    passes-on : (s′ out′ : List ℕ) (n : ℕ) → AllFormed s′ → cycled (stateAt (regionsOf regions) s out at) ≡ continues (stateAt (regionsOf regions) s′ out′ n)
+        → (storeSound regions s′ ≡ true) × (sizeFits (length s′) ≡ true)
+    unfolding afterCycle sound
+    passes-on s′ out′ n f e =
+        let t = stateAt (regionsOf regions) s out at in
+        let ok : Runnable (alone t) = runnable regions s size passes [] (length out - at) in
+        go (cycle (alone t)) (every-one (alone t) ok) e
+      where
+        go : (x : Res State Refusal (Unit {0})) → After x (λ a v. Left (alone (stateAt (regionsOf regions) s out at)) v)
+            → afterCycle (stateAt (regionsOf regions) s out at) x ≡ continues (stateAt (regionsOf regions) s′ out′ n)
+            → (storeSound regions s′ ≡ true) × (sizeFits (length s′) ≡ true)
+        go (done a v) l q =
+            let u = stateAt (regionsOf regions) s′ out′ n in
+            let j : joined (stateAt (regionsOf regions) s out at) v ≡ u = cc in (
+              in-form regions s′ (take n out′) (length out′ - n) (tabled regions s size passes) f ∙ ap sound (sym j) ∙ l .runnable .test,
+              ap sizeFits (sym (unpacked-length s′)) ∙ ap (λ (w : State). sizeFits (length (w .cells))) (sym j) ∙ l .runnable .size,
+            )
+        go (refused q) l p = let z : _≡_ {A = ℕ} 0 1 = cc in absurd (omega arith)
+
+    -- Progress: the free cells are exactly those on the H2 list, each once, and the numbers pass the test again
+    pub progress-keeps : {s′ out′ log order marks : List ℕ} {n : ℕ} → Turns (regionsOf regions) s out at s′ out′ log order marks (Progress n)
+        → FreeListed (stateWith regions s′ [] 0) × (storeSound regions s′ ≡ true)
+    unfolding Came
+    progress-keeps {s′ = s′} {out′} {n = n} c =
+        let (f, z) = passes-on s′ out′ n (c .formed (passed-formed regions s passes)) (c .came .0) in
+        (free-listed (stateWith regions s′ [] 0) (runnable regions s′ z f [] 0), f)
+
+    -- Refused: numbers and bytes are as they were
+    pub refused-keeps : {s′ out′ log order marks : List ℕ} {e : Refusal} → Turns (regionsOf regions) s out at s′ out′ log order marks (Stopped e)
+        → (s′ ≡ s) × (out′ ≡ out)
+    unfolding Came
+    refused-keeps c = (c .came .1, c .came .2)
