@@ -66,7 +66,8 @@ module _ (c : ℕ) (r : Regions) (s : List ℕ) where
     unfolding walkCall
     says-walk = rw (size-is s (p .size), passed-sound r s [] 0 (p .sound), walkCall)
 
-    walks : metOf (afterWalk (walkBack c st)) ≡ walkOn c r s
+    -- the call is the walk of the definition
+    pub walks : metOf (afterWalk (walkBack c st)) ≡ walkOn c r s
     unfolding walkOn
     walks = ap metOf (sym says-walk) ∙ rw (fit r s (p .size) (p .sound), walkOn)
 
