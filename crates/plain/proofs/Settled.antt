@@ -58,7 +58,7 @@ module _ (m : Act (Unit {0})) (r : Regions) (s : List ℕ) where
   plain-acts e f = rw (fit r s e f, plainOn)
 
   module _ {top : ℕ} (p : Passed r s top) where
-    done-or-not : inNumbers (afterAct st (m st)) ≡ plainOn m r s
+    pub done-or-not : inNumbers (afterAct st (m st)) ≡ plainOn m r s
     done-or-not = ap inNumbers (sym (says-acts (p .size) (passed-sound r s [] 0 (p .sound)))) ∙ plain-acts (p .size) (p .sound)
 
     module _ {k : ℕ} {l s₁ l₁ : List ℕ} where

@@ -1,3 +1,6 @@
 -- What is promised of the public calls, each statement to be read without its proof.
 pub mod OneOutcome
 pub mod EveryCycle
+pub mod FreeLaws
+pub mod Freed
+pub mod Demand3Calls

@@ -1,2 +1,3 @@
 -- The words of the promises that no contract has.
 pub mod Cycles
+pub mod Free
