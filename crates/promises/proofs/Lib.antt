@@ -4,3 +4,4 @@ pub mod EveryCycle
 pub mod FreeLaws
 pub mod Freed
 pub mod Demand3Calls
+pub mod ExampleHolds
