@@ -5,3 +5,4 @@ pub mod FreeLaws
 pub mod Freed
 pub mod Demand3Calls
 pub mod ExampleHolds
+pub mod InCycle

@@ -1,0 +1,157 @@
+-- Demand 3 inside a cycle: whenever a cycle is accepted whose order executes J72, J71 or J74, it has done to the store what that process
+-- does, and besides that H1 has got the LINK. Each statement can be read without its proof.
+use Prim.Native.Nat.{ℕ, suc, _+_, _-_, _<_, _≤_}
+use mathlib.Core.Path.{_≡_, refl, sym, ap, _∙_}
+use mathlib.Core.Bool.{Bool, true, false}
+use mathlib.Core.List.{List, _∷_, reverse}
+use mathlib.Core.Logic.{_≢_}
+use native.Mathlib.Omega.{arith}
+use borrow.Author.Tests.{ne-eqb}
+use lib.Dec.{eqb}
+use lib.ListN.{length, set}
+use Rattle.paper.specs.declared.Refusal.{Refusal}
+use Rattle.paper.specs.declared.Symbol.{Symbol}
+use Rattle.paper.specs.Limits.{firstDeck}
+use Rattle.paper.specs.Cell.{Cell, free, word, term, process, Word, wordIn, withSymbol, cellAt, State, withCells, H, J, nameIn}
+use Rattle.paper.specs.Act.{Act, Res, done, refused, _>>=_, _>>_, ret, refuseIf, ifThen, choose, peek, put, own, nameOf, sized, touch, notOwn, ownStore}
+use Rattle.paper.specs.Walk.{walkBack, chainBack}
+use Rattle.paper.specs.Process.{J71, J72, J74, Next, then, perform, thenOn, listed, performIn}
+use Rattle.paper.specs.Cycle.{Control, goesOn, finish, performs, execute, executes, operate, toLink, advance, cycle}
+use Rattle.paper.proofs.SoundStore.{Frame, at, CellOk, Sound}
+use Rattle.paper.proofs.SoundTest.{sound-from}
+use Rattle.paper.proofs.Demand1.{Runnable}
+use Rattle.paper.proofs.Demand3.{inH0, Erased, Copied, J71-frees, J72-frees, J74-copy}
+use Rattle.cycle.specs.Order.{Order, fetch}
+use Rattle.cycle.proofs.OrderLaws.{doing, interprets}
+
+-- the word in H1, and the store with the symbol x in H1
+abbrev pub inH1 : State → Word
+inH1 s = wordIn (cellAt (s .cells) (H 1))
+
+abbrev pub goingTo : Symbol → State → State
+goingTo x s = withCells s (set (s .cells) (H 1) (word (withSymbol (inH1 s) x)))
+
+-- the order of the cycle from s executes the process n, and then H1 is to get the LINK l
+pub record Executes (n l : ℕ) (s : State) : Type 0 where
+  pub going : inH1 s .symb ≢ 0
+  pub x : Symbol
+  pub fetched : fetch (inH1 s .symb) s ≡ done (record { p = 0; x = x; link = l }) s
+  pub process : x .num ≡ J n
+
+-- "J cells are the only process cells"
+J-cell : (F : Frame) (c : ℕ) (x : Cell) → 21 ≤ c → c < 221 → CellOk F c x → x ≡ process
+J-cell F c (free l) a b k = absurd (omega (arith, k .notReserved, F .end≥))
+J-cell F c (word w) a b k = absurd (omega (arith, k .noJ a))
+J-cell F c (term t) a b k = absurd (omega (arith, k .place))
+J-cell F c process a b k = refl
+
+-- a line of a block that was accepted
+module _ {A B : Type 0} (m : Act A) (s : State) {t : State} {a : A} (e : m s ≡ done a t) where
+  after-bind : (f : A → Act B) → (m >>= f) s ≡ f a t
+  unfolding _>>=_
+  after-bind f = rw (e, _>>=_)
+
+  after-then : (f : Act B) → (m >> f) s ≡ f t
+  unfolding _>>_
+  after-then f = rw (e, _>>_)
+
+module _ (s : State) (r : Runnable s) (n : ℕ) (few : n < 200) (m : Act (Unit {0})) (does : perform n ≡ thenOn m) where
+  abbrev c : ℕ
+  c = J n
+
+  is-process : cellAt (s .cells) c ≡ process
+  is-process = let t = sound-from s (r .size) (r .test) in J-cell (t .frame) c (at s c) (omega arith) (omega (arith, few))
+      (t .isSound .each c (omega (arith, few, t .frame .big)))
+
+  touched : touch c s ≡ done process s
+  unfolding touch peek refuseIf ret _>>=_ _>>_
+  touched = rw (ne-eqb c 0 (λ e. omega (arith, e)), is-process)
+
+  not-own : notOwn c s ≡ done tt s
+  unfolding notOwn refuseIf
+  not-own = rw (ne-eqb c 2 (λ e. omega (arith, e)), ne-eqb c 3 (λ e. omega (arith, e)))
+
+  executed : (x : Symbol) → x .num ≡ c → (k : ℕ) → execute (suc k) x s ≡ performs (λ z. execute k z) n s
+  unfolding execute ifThen
+  executed x e k =
+      let j : x .num - J 0 ≡ n = omega (arith, e) in
+      after-bind (touch (x .num)) s (ap (λ d. touch d s) e ∙ touched) _
+      ∙ after-then (notOwn (x .num)) s (ap (λ d. notOwn d s) e ∙ not-own) _
+      ∙ ap (λ d. performs (λ z. execute k z) d s) j
+
+  performed : (again : Symbol → Act Control) → performs again n s ≡ (thenOn m >>= finish again) s
+  unfolding performs
+  performed again = ap (λ (p : Act Next). (p >>= finish again) s) does
+
+  -- the process is refused, and so is its execution; or both are accepted, and control goes on
+  refused-too : (again : Symbol → Act Control) (e : Refusal) → m s ≡ refused e → (thenOn m >>= finish again) s ≡ refused e
+  unfolding thenOn _>>=_ _>>_
+  refused-too again e h = rw (h, _>>=_, _>>_)
+
+  done-too : (again : Symbol → Act Control) (u : State) → m s ≡ done tt u → (thenOn m >>= finish again) s ≡ done goesOn u
+  unfolding thenOn finish ret
+  done-too again u h = after-bind (thenOn m) s (after-then m s h _) _
+
+  module _ (l : ℕ) (o : Executes n l s) where
+    cycle-is : cycle s ≡ (operate 0 (o .x) >>= advance l) s
+    unfolding cycle own ifThen
+    cycle-is =
+        after-bind (own (H 1)) s refl _
+        ∙ rw (ne-eqb (inH1 s .symb) 0 (o .going), ifThen)
+        (ap (λ (f : Act (Unit {0})). f s) (sym (interprets (inH1 s .symb))) ∙ after-bind (fetch (inH1 s .symb)) s (o .fetched) doing)
+
+    operates : operate 0 (o .x) s ≡ (thenOn m >>= finish (λ z. execute (length (s .cells)) z)) s
+    unfolding operate choose executes sized
+    operates = executed (o .x) (o .process) (length (s .cells)) ∙ performed (λ z. execute (length (s .cells)) z)
+
+    stopped : (e : Refusal) → operate 0 (o .x) s ≡ refused e → cycle s ≡ refused e
+    unfolding _>>=_
+    stopped e h = cycle-is ∙ rw (h, _>>=_)
+
+    advanced : (u : State) → advance l goesOn u ≡ done tt (goingTo (nameIn (u .regions) l) u)
+    unfolding advance toLink nameOf ownStore own put _>>=_
+    advanced u = refl
+
+    -- an accepted cycle: the process was accepted, and H1 has got the LINK
+    accepted : (t : State) → cycle s ≡ done tt t → (u : State) × (m s ≡ done tt u) × (t ≡ goingTo (nameIn (u .regions) l) u)
+    accepted t e = go (m s) refl
+      where
+        go : (y : Res State Refusal (Unit {0})) → m s ≡ y → (u : State) × (m s ≡ done tt u) × (t ≡ goingTo (nameIn (u .regions) l) u)
+        go (refused q) h =
+            let f = stopped q (operates ∙ refused-too (λ z. execute (length (s .cells)) z) q h) in
+            let z : _≡_ {A = ℕ} 0 1 = cc in absurd (omega arith)
+        go (done v u) h =
+            let f = cycle-is ∙ after-bind (operate 0 (o .x)) s (operates ∙ done-too (λ z. execute (length (s .cells)) z) u h) (advance l) ∙ advanced u in
+            (u, h, cc)
+
+-- An accepted cycle whose order executes J72: the cell below H0 and those that the walk met are free, and nothing else has changed (`Erased` of
+-- paper/proofs/Demand3); then H1 got the LINK.
+module _ (s t : State) (r : Runnable s) (l : ℕ) where
+  pub J72-in-cycle : Executes 72 l s → cycle s ≡ done tt t
+      → (u : State) × (back : List ℕ) × (walkBack (inH0 s .symb) s ≡ done back s) × Erased s u (inH0 s .link ∷ reverse back)
+      × (t ≡ goingTo (nameIn (u .regions) l) u)
+  unfolding perform performIn listed ifThen
+  J72-in-cycle o e =
+      let (u, d, h) = accepted s r 72 (omega arith) J72 refl l o t e in
+      let (back, w, x) = J72-frees s u r d in
+      (u, back, w, x, h)
+
+  -- and J71, those of the chain
+  pub J71-in-cycle : Executes 71 l s → cycle s ≡ done tt t
+      → (u : State) × (back : List ℕ) × (chainBack (inH0 s .symb) s ≡ done back s) × Erased s u (inH0 s .link ∷ reverse back)
+      × (t ≡ goingTo (nameIn (u .regions) l) u)
+  unfolding perform performIn listed ifThen
+  J71-in-cycle o e =
+      let (u, d, h) = accepted s r 71 (omega arith) J71 refl l o t e in
+      let (back, w, x) = J71-frees s u r d in
+      (u, back, w, x, h)
+
+  -- and J74: the structure that H0 names is copied (`Copied`)
+  pub J74-in-cycle : Executes 74 l s → cycle s ≡ done tt t
+      → (u : State) × (back : List ℕ) × (news : List ℕ) × (walkBack (inH0 s .symb) s ≡ done back s) × Copied s u (reverse back) news
+      × (t ≡ goingTo (nameIn (u .regions) l) u)
+  unfolding perform performIn listed ifThen
+  J74-in-cycle o e =
+      let (u, d, h) = accepted s r 74 (omega arith) J74 refl l o t e in
+      let (back, news, w, x) = J74-copy s u r d in
+      (u, back, news, w, x, h)
