@@ -24,7 +24,7 @@ use Rattle.paper.proofs.ProcessLaws.{Kept, s-J72, s-J74}
 use Rattle.paper.proofs.Handed.{when-done}
 use Rattle.paper.proofs.WalkForm.{r-walkBack}
 use Rattle.paper.proofs.Demand1.{FreeListed, free-listed}
-use Rattle.paper.proofs.Demand3.{inH0}
+use Rattle.paper.proofs.Demand3.{inH0, Longer, OnlyLink}
 use Rattle.cells.proofs.Store.{packed-unpacked}
 use Rattle.regions.specs.declared.Regions.{Regions}
 use Rattle.regions.specs.Table.{regionsOf}
@@ -109,12 +109,15 @@ copy-and-erase r s {met} allowed f enough =
     let (back, walk, many) = walk-back c r s allowed p f in
     calls-give-back r s (p .size) (p .sound) (record { back = back; walk = walk; enough = omega (arith, enough, many, free-count s) })
 
--- Whenever erase finishes, it has freed the cell below H0 and the cells that the walk of the symbol in H0 met, and nothing else: for every
--- walk that the contract of the call allows.
+-- Whenever erase finishes, it has freed the cell below H0 and the cells that the walk of the symbol in H0 met, and nothing else; these now
+-- stand first on H2's list, in this order, and of H2's word only the LINK has changed.
 pub erase-frees : (r : Regions) (s : List ℕ) {met : Met} {s₁ : List ℕ}
     → met ≡ walkOn (inH0 (stateWith r s [] 0) .symb) r s
     → numbers Finished s₁ ≡ plainOn J72 r s
-    → (met .answer ≡ Finished) × (let below = inH0 (stateWith r s [] 0) .link in Freed s s₁ (below ∷ take (met .n) (met .cells)) below)
+    → (let below = inH0 (stateWith r s [] 0) .link in
+    let gone = below ∷ take (met .n) (met .cells) in
+    (met .answer ≡ Finished) × Freed s s₁ gone below × Longer (stateWith r s [] 0) (stateWith r s₁ [] 0) gone
+    × OnlyLink (stateWith r s [] 0) (stateWith r s₁ [] 0))
 erase-frees r s {s₁ = s₁} allowed e =
     let c = inH0 (stateWith r s [] 0) .symb in
     let below = inH0 (stateWith r s [] 0) .link in
@@ -122,7 +125,12 @@ erase-frees r s {s₁ = s₁} allowed e =
     let (back, walk, erased) = call-frees r s (p .size) (p .sound) e in
     let (passes, many) = call-keeps r s (p .size) (p .sound) (λ F. s-J72) e in
     let (answer, n, cells) = cells-met (reverse back) (walk-met c r s allowed p walk) in
-    (answer, subst (λ cs. Freed s s₁ (below ∷ cs) below) (sym cells) (freed-so r s (p .size) (p .sound) s₁ passes many (reverse back) erased))
+    (
+      answer,
+      subst (λ cs. Freed s s₁ (below ∷ cs) below) (sym cells) (freed-so r s (p .size) (p .sound) s₁ passes many (reverse back) erased),
+      subst (λ cs. Longer (stateWith r s [] 0) (stateWith r s₁ [] 0) (below ∷ cs)) (sym cells) (erased .order),
+      erased .inH2,
+    )
 
 -- A plain action whose answer is not Finished leaves every number as it was: preserve, copy, erase, or any other.
 pub refused-leaves : (m : Act (Unit {0})) (r : Regions) (s : List ℕ) {a : RunAnswer} {s₁ : List ℕ}

@@ -14,7 +14,7 @@ use Rattle.paper.specs.declared.RunAnswer.{RunAnswer}
 use Rattle.paper.specs.declared.RunAnswer.the-variants.{Finished, BudgetSpent, Refused}
 use Rattle.paper.specs.Limits.{largestBudget}
 use Rattle.paper.specs.Answer.{runNumber}
-use Rattle.paper.specs.Cell.{State, sizeFits}
+use Rattle.paper.specs.Cell.{Region, State, sizeFits}
 use Rattle.paper.specs.Act.{Res, done, refused}
 use Rattle.paper.specs.Cycle.{cycle}
 use Rattle.paper.specs.Run.{Outcome, outcome, isFinished, Turn, finishes, stops, continues, alone, joined, afterCycle, turn, onTurn, runFrom}
@@ -28,6 +28,8 @@ use Rattle.sound.proofs.SoundLaws.{passed-formed, in-form}
 use Rattle.cells.specs.Pack.{AllFormed}
 use Rattle.cells.specs.Bridge.{stateOf}
 use Rattle.cells.proofs.Store.{unpacked-length}
+use Rattle.regions.specs.Lent.{Tells}
+use Rattle.cycle.specs.declared.Cycled.{Cycled}
 use Rattle.cycle.specs.declared.Cycled.the-variants.{Progress, Refused as Stopped}
 use Rattle.cycle.specs.Turns.{stateAt, cycled, Came, Turns}
 use Rattle.machine.specs.declared.Ran.{Ran}
@@ -193,39 +195,42 @@ module _ (regions : Regions) (budget : ℕ) (s out : List ℕ) {r : Ran} {s′ o
           rw (t, c, answer-is regions budget s out allowed w) (rw b at (e .why)),
         )
 
--- One call of cycle::cycle, on numbers that pass the test: of every outcome that its contract `Turns` allows
+-- What a call of cycle::cycle leaves of the numbers s and the bytes out. Progress: the free cells are exactly those on the H2 list, each once,
+-- and the numbers pass the test again. Refused: "leaves cells and printed lines as it found them"
+abbrev pub Leaves : Regions → (s out s′ out′ : List ℕ) → Cycled → Type 0
+Leaves regions s out s′ out′ (Progress n) = FreeListed (stateWith regions s′ [] 0) × (storeSound regions s′ ≡ true) × (length s′ ≡ length s)
+Leaves regions s out s′ out′ (Stopped e) = (s′ ≡ s) × (out′ ≡ out)
+
+-- on numbers that pass the test, with a table that tells the same regions
 module _ (regions : Regions) (s out : List ℕ) (at : ℕ) (size : sizeFits (length s) ≡ true) (passes : storeSound regions s ≡ true)
+    (table : List ℕ) (tells : Tells table (regionsOf regions))
   where
-    -- what the store after an accepted cycle is to the test
-    passes-on : (s′ out′ : List ℕ) (n : ℕ) → AllFormed s′ → cycled (stateAt (regionsOf regions) s out at) ≡ continues (stateAt (regionsOf regions) s′ out′ n)
-        → (storeSound regions s′ ≡ true) × (sizeFits (length s′) ≡ true)
+    abbrev before : State
+    before = stateAt (regionsOf regions) s out at
+
+    -- what an accepted cycle leaves
+    passes-on : (s′ out′ : List ℕ) (n : ℕ) → AllFormed s′ → cycled before ≡ continues (stateAt (regionsOf regions) s′ out′ n)
+        → (storeSound regions s′ ≡ true) × (length s′ ≡ length s)
     unfolding afterCycle sound
-    passes-on s′ out′ n f e =
-        let t = stateAt (regionsOf regions) s out at in
-        let ok : Runnable (alone t) = runnable regions s size passes [] (length out - at) in
-        go (cycle (alone t)) (every-one (alone t) ok) e
+    passes-on s′ out′ n f e = go (cycle (alone before)) (every-one (alone before) (runnable regions s size passes [] (length out - at))) e
       where
-        go : (x : Res State Refusal (Unit {0})) → After x (λ a v. Left (alone (stateAt (regionsOf regions) s out at)) v)
-            → afterCycle (stateAt (regionsOf regions) s out at) x ≡ continues (stateAt (regionsOf regions) s′ out′ n)
-            → (storeSound regions s′ ≡ true) × (sizeFits (length s′) ≡ true)
+        go : (x : Res State Refusal (Unit {0})) → After x (λ a v. Left (alone before) v)
+            → afterCycle before x ≡ continues (stateAt (regionsOf regions) s′ out′ n)
+            → (storeSound regions s′ ≡ true) × (length s′ ≡ length s)
         go (done a v) l q =
-            let u = stateAt (regionsOf regions) s′ out′ n in
-            let j : joined (stateAt (regionsOf regions) s out at) v ≡ u = cc in (
+            let j : joined before v ≡ stateAt (regionsOf regions) s′ out′ n = cc in (
               in-form regions s′ (take n out′) (length out′ - n) (tabled regions s size passes) f ∙ ap sound (sym j) ∙ l .runnable .test,
-              ap sizeFits (sym (unpacked-length s′)) ∙ ap (λ (w : State). sizeFits (length (w .cells))) (sym j) ∙ l .runnable .size,
+              sym (unpacked-length s′) ∙ ap (λ (w : State). length (w .cells)) (sym j) ∙ l .within .cells ∙ unpacked-length s,
             )
         go (refused q) l p = let z : _≡_ {A = ℕ} 0 1 = cc in absurd (omega arith)
 
-    -- Progress: the free cells are exactly those on the H2 list, each once, and the numbers pass the test again
-    pub progress-keeps : {s′ out′ log order marks : List ℕ} {n : ℕ} → Turns (regionsOf regions) s out at s′ out′ log order marks (Progress n)
-        → FreeListed (stateWith regions s′ [] 0) × (storeSound regions s′ ≡ true)
+    -- of every outcome that the contract of cycle::cycle allows
+    pub cycle-leaves : {s′ out′ log order marks : List ℕ} (c : Cycled)
+        → ((rs : List Region) → Tells table rs → Turns rs s out at s′ out′ log order marks c)
+        → Leaves regions s out s′ out′ c
     unfolding Came
-    progress-keeps {s′ = s′} {out′} {n = n} c =
-        let (f, z) = passes-on s′ out′ n (c .formed (passed-formed regions s passes)) (c .came .0) in
-        (free-listed (stateWith regions s′ [] 0) (runnable regions s′ z f [] 0), f)
-
-    -- Refused: numbers and bytes are as they were
-    pub refused-keeps : {s′ out′ log order marks : List ℕ} {e : Refusal} → Turns (regionsOf regions) s out at s′ out′ log order marks (Stopped e)
-        → (s′ ≡ s) × (out′ ≡ out)
-    unfolding Came
-    refused-keeps c = (c .came .1, c .came .2)
+    cycle-leaves {s′} {out′} (Progress n) h =
+        let k = h (regionsOf regions) tells in
+        let (f, m) = passes-on s′ out′ n (k .formed (passed-formed regions s passes)) (k .came .0) in
+        (free-listed (stateWith regions s′ [] 0) (runnable regions s′ (ap sizeFits m ∙ size) f [] 0), f, m)
+    cycle-leaves (Stopped e) h = let k = h (regionsOf regions) tells in (k .came .1, k .came .2)

@@ -39,7 +39,7 @@ pub record Executes (n l : ℕ) (s : State) : Type 0 where
   pub process : x .num ≡ J n
 
 -- "J cells are the only process cells"
-J-cell : (F : Frame) (c : ℕ) (x : Cell) → 21 ≤ c → c < 221 → CellOk F c x → x ≡ process
+J-cell : (F : Frame) (c : ℕ) (x : Cell) → J 0 ≤ c → c < firstDeck → CellOk F c x → x ≡ process
 J-cell F c (free l) a b k = absurd (omega (arith, k .notReserved, F .end≥))
 J-cell F c (word w) a b k = absurd (omega (arith, k .noJ a))
 J-cell F c (term t) a b k = absurd (omega (arith, k .place))
@@ -55,7 +55,7 @@ module _ {A B : Type 0} (m : Act A) (s : State) {t : State} {a : A} (e : m s ≡
   unfolding _>>_
   after-then f = rw (e, _>>_)
 
-module _ (s : State) (r : Runnable s) (n : ℕ) (few : n < 200) (m : Act (Unit {0})) (does : perform n ≡ thenOn m) where
+module _ (s : State) (r : Runnable s) (n : ℕ) (few : J n < firstDeck) (m : Act (Unit {0})) (does : perform n ≡ thenOn m) where
   abbrev c : ℕ
   c = J n
 
