@@ -4,5 +4,5 @@ pub mod EveryCycle
 pub mod FreeLaws
 pub mod Freed
 pub mod Demand3Calls
-pub mod ExampleHolds
 pub mod InCycle
+pub mod ExampleHolds

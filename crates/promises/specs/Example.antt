@@ -1,5 +1,4 @@
--- A small store on which demand 3 can be tried: "L0 empty, then 9-1, then W0, where 9-1 is empty, then W1", the deck of paper/specs/Bench, in 256
--- cells. Its first cycle pushes L0.
+-- Small stores on which the promises can be tried: decks of paper/specs/Bench in 256 cells, and what their first cycle leaves.
 use Prim.Native.Nat.{ℕ}
 use mathlib.Core.List.{List, []}
 use lib.ListN.{replicate}
@@ -7,21 +6,28 @@ use Rattle.paper.specs.Limits.{smallestN}
 use Rattle.paper.specs.Cell.{free, State}
 use Rattle.paper.specs.Deck.{LoadOutcome, load}
 use Rattle.paper.specs.Run.{runFrom}
-use Rattle.paper.specs.Bench.{fiveCells}
+use Rattle.paper.specs.Bench.{fiveCells, eraseNew}
 use Rattle.cells.specs.Pack.{packed}
 use Rattle.regions.specs.declared.Regions.{Regions}
 use Rattle.deck.specs.Load.{tableOf}
 
--- region L has 22 cells, so that six cells are free after the first cycle
-unfoldable pub loaded : LoadOutcome
-loaded = load (fiveCells 22) (replicate smallestN (free 0))
+unfoldable pub loaded : List ℕ → LoadOutcome
+loaded deck = load deck (replicate smallestN (free 0))
 
-unfoldable pub pushed : State
-pushed = runFrom 1 0 (record { cells = loaded .cells; regions = loaded .regions; lines = []; room = 0 }) .state
+unfoldable pub begun : List ℕ → State
+begun deck = record { cells = loaded deck .cells; regions = loaded deck .regions; lines = []; room = 0 }
 
--- its numbers, and its table
-unfoldable pub five : List ℕ
-five = packed (pushed .cells)
-
+-- "L0 empty, then 9-1, then W0, where 9-1 is empty, then W1": the first cycle pushes L0, and region L has so many cells that six are free then.
+-- Its table, its numbers before and after
 unfoldable pub table : Regions
-table = tableOf (loaded .regions)
+table = tableOf (loaded (fiveCells 22) .regions)
+
+unfoldable pub fresh : List ℕ
+fresh = packed (begun (fiveCells 22) .cells)
+
+unfoldable pub five : List ℕ
+five = packed (runFrom 1 0 (begun (fiveCells 22)) .state .cells)
+
+-- J90, J72: the second cycle erases what the first has pushed
+unfoldable pub erasing : State
+erasing = runFrom 1 0 (begun eraseNew) .state
