@@ -149,8 +149,8 @@ module _ (r : Regions) (s : List ℕ) (size : sizeFits (length s) ≡ true) (pas
       let p = plain-after r (length s) k given plain in
       let q : s₁ ≡ packed (t .cells) = ap (λ (n : Numbers). n .cells) (e ∙ begins m) in (
         ap (storeSound r) q
-        ∙ in-form r (packed (t .cells)) [] 0 tabled (packed-formed (t .cells) (plain-fits r (length s) p))
-        ∙ ap sound (numbered r (length s) t p) ∙ sound-passes (p .frame) t (p .isSound),
+            ∙ in-form r (packed (t .cells)) [] 0 tabled (packed-formed (t .cells) (plain-fits r (length s) p))
+            ∙ ap sound (numbered r (length s) t p) ∙ sound-passes (p .frame) t (p .isSound),
         ap length q ∙ length-map (t .cells) packOf ∙ p .isSound .size ∙ p .many,
       )
 

@@ -124,8 +124,7 @@ erase-frees r s {s₁ = s₁} allowed e =
     let p = finished-passed r s (λ a u. ap (λ (n : Numbers). n .answer) (plain-unfit J72 r s u ∙ sym e)) in
     let (back, walk, erased) = call-frees r s (p .size) (p .sound) e in
     let (passes, many) = call-keeps r s (p .size) (p .sound) (λ F. s-J72) e in
-    let (answer, n, cells) = cells-met (reverse back) (walk-met c r s allowed p walk) in
-    (
+    let (answer, n, cells) = cells-met (reverse back) (walk-met c r s allowed p walk) in (
       answer,
       subst (λ cs. Freed s s₁ (below ∷ cs) below) (sym cells) (freed-so r s (p .size) (p .sound) s₁ passes many (reverse back) erased),
       subst (λ cs. Longer (stateWith r s [] 0) (stateWith r s₁ [] 0) (below ∷ cs)) (sym cells) (erased .order),

@@ -3,8 +3,8 @@
 use Prim.Native.Nat.{ℕ, zero, suc, _+_, _-_, _≤_}
 use mathlib.Core.Path.{_≡_, refl, sym, ap, subst, _∙_}
 use mathlib.Core.Bool.{Bool, true, false}
-use mathlib.Core.List.{List, [], _++_}
-use mathlib.Core.Logic.{_⊎_, inl, inr}
+use mathlib.Core.List.{List, []}
+use mathlib.Core.Logic.{inl, inr}
 use mathlib.Core.Option.{some}
 use native.Mathlib.Omega.{arith}
 use lib.ListN.{length, take, drop}
@@ -20,7 +20,7 @@ use Rattle.paper.specs.Cycle.{cycle}
 use Rattle.paper.specs.Run.{Outcome, outcome, isFinished, Turn, finishes, stops, continues, alone, joined, afterCycle, turn, onTurn, runFrom}
 use Rattle.paper.specs.Sound.{sound}
 use Rattle.paper.proofs.Safe.{After}
-use Rattle.paper.proofs.Demand1.{Runnable, FreeListed, Left, free-listed, every-cycle as every-one}
+use Rattle.paper.proofs.Demand1.{FreeListed, Left, free-listed, every-cycle as every-one}
 use Rattle.regions.specs.declared.Regions.{Regions}
 use Rattle.regions.specs.Table.{regionsOf}
 use Rattle.sound.specs.Store.{stateWith, storeSound}
@@ -36,7 +36,8 @@ use Rattle.machine.specs.declared.Ran.{Ran}
 use Rattle.machine.specs.Numbers.{numbers, cyclesOn, runOn}
 use Rattle.machine.proofs.RunLaws.{run-finishes, run-spent, run-cycles}
 use Rattle.machine.proofs.Carried.{Before, Way, small, unsound, ran, way, given, after, tested, sound-after, numbered, answer-is, cells-are, out-is}
-use Rattle.machine.proofs.Carried.{runnable, tabled, cycles-are, len-is, run-keeps-sound, run-keeps-past, run-lists-free, run-within-budget}
+use Rattle.machine.proofs.Carried.{runnable, tabled, cycles-are, len-is, run-keeps-sound, run-keeps-size, run-keeps-past, run-lists-free}
+use Rattle.machine.proofs.Carried.{run-within-budget}
 use Rattle.promises.specs.Cycles.{afterCycles, EndsAs}
 
 -- a turn that goes on
@@ -147,8 +148,9 @@ pub record AfterCycles (regions : Regions) (s out : List ℕ) (k : ℕ) (r : Ran
   pub cycles : r .cycles ≡ k
   pub after : afterCycles k (stateWith regions s [] (length out)) ≡ some (stateAt (regionsOf regions) s′ out′ (r .len))
   pub past : drop (r .len) out′ ≡ drop (r .len) out
-  -- "the free cells are exactly those on the H2 list, each once", and it passes the test again
+  -- "the free cells are exactly those on the H2 list, each once"; the numbers are as many, and pass the test again
   pub listed : FreeListed (stateWith regions s′ [] 0)
+  pub many : length s′ ≡ length s
   pub sound : storeSound regions s′ ≡ true
 
 -- Whatever a run answers, if that is neither 1 nor 20
@@ -177,6 +179,7 @@ module _ (regions : Regions) (budget : ℕ) (s out : List ℕ) {r : Ran} {s′ o
           after = w .after ∙ ap some (sym (state-is regions s out size f k fewer a));
           past = run-keeps-past regions k s out a .0;
           listed = run-lists-free regions k s out a size f;
+          many = run-keeps-size regions k s out a;
           sound = run-keeps-sound regions k s out a f;
         }
 

@@ -1,5 +1,5 @@
 -- An erasure, of the numbers alone; and that it is one of the store.
-use Prim.Native.Nat.{ℕ, _+_, _<_, _≤_}
+use Prim.Native.Nat.{ℕ, _+_, _<_}
 use mathlib.Core.Path.{_≡_, refl, sym, ap, subst, _∙_}
 use mathlib.Core.Bool.{Bool, true, false, _||_}
 use mathlib.Core.List.{List, [], _∷_}
@@ -9,7 +9,7 @@ use native.Mathlib.Decide.{ℕ-discrete, decLt}
 use borrow.Author.Tests.{eqb-true}
 use lib.Dec.{eqb}
 use lib.ListN.{length, getD, List·getD-eq-default}
-use Rattle.paper.specs.Cell.{Cell, isFree, H, sizeFits}
+use Rattle.paper.specs.Cell.{isFree, H, sizeFits}
 use Rattle.paper.specs.Walk.{member}
 use Rattle.paper.proofs.SoundStore.{never}
 use Rattle.paper.proofs.SoundTest.{sound-from}

@@ -1,13 +1,11 @@
 -- Demand 3 inside a cycle: whenever a cycle is accepted whose order executes J72, J71 or J74, it has done to the store what that process
 -- does, and besides that H1 has got the LINK. Each statement can be read without its proof.
-use Prim.Native.Nat.{ℕ, suc, _+_, _-_, _<_, _≤_}
+use Prim.Native.Nat.{ℕ, suc, _-_, _<_, _≤_}
 use mathlib.Core.Path.{_≡_, refl, sym, ap, _∙_}
-use mathlib.Core.Bool.{Bool, true, false}
 use mathlib.Core.List.{List, _∷_, reverse}
 use mathlib.Core.Logic.{_≢_}
 use native.Mathlib.Omega.{arith}
 use borrow.Author.Tests.{ne-eqb}
-use lib.Dec.{eqb}
 use lib.ListN.{length, set}
 use Rattle.paper.specs.declared.Refusal.{Refusal}
 use Rattle.paper.specs.declared.Symbol.{Symbol}
@@ -15,13 +13,13 @@ use Rattle.paper.specs.Limits.{firstDeck}
 use Rattle.paper.specs.Cell.{Cell, free, word, term, process, Word, wordIn, withSymbol, cellAt, State, withCells, H, J, nameIn}
 use Rattle.paper.specs.Act.{Act, Res, done, refused, _>>=_, _>>_, ret, refuseIf, ifThen, choose, peek, put, own, nameOf, sized, touch, notOwn, ownStore}
 use Rattle.paper.specs.Walk.{walkBack, chainBack}
-use Rattle.paper.specs.Process.{J71, J72, J74, Next, then, perform, thenOn, listed, performIn}
+use Rattle.paper.specs.Process.{J71, J72, J74, Next, perform, thenOn, listed, performIn}
 use Rattle.paper.specs.Cycle.{Control, goesOn, finish, performs, execute, executes, operate, toLink, advance, cycle}
-use Rattle.paper.proofs.SoundStore.{Frame, at, CellOk, Sound}
+use Rattle.paper.proofs.SoundStore.{Frame, at, CellOk}
 use Rattle.paper.proofs.SoundTest.{sound-from}
 use Rattle.paper.proofs.Demand1.{Runnable}
 use Rattle.paper.proofs.Demand3.{inH0, Erased, Copied, J71-frees, J72-frees, J74-copy}
-use Rattle.cycle.specs.Order.{Order, fetch}
+use Rattle.cycle.specs.Order.{fetch}
 use Rattle.cycle.proofs.OrderLaws.{doing, interprets}
 
 -- the word in H1, and the store with the symbol x in H1
