@@ -5,7 +5,7 @@ use mathlib.Core.Path.{_≡_, refl, sym, ap, subst, _∙_}
 use mathlib.Core.Bool.{Bool, true, false}
 use mathlib.Core.List.{List, []}
 use mathlib.Core.Logic.{inl, inr}
-use mathlib.Core.Option.{some}
+use mathlib.Core.Option.{none, some}
 use native.Mathlib.Omega.{arith}
 use lib.ListN.{length, take, drop}
 use lib.Seq.{take-append-seam}
@@ -49,6 +49,23 @@ module _ (t u : State) (e : turn t ≡ continues u) where
   cycles-next : (k : ℕ) → afterCycles (suc k) t ≡ afterCycles k u
   unfolding afterCycles onTurn
   cycles-next k = rw (e, afterCycles)
+
+-- one cycle more is one turn more
+cycles-then : (k : ℕ) (s t u : State) → afterCycles k s ≡ some t → afterCycles (suc k) s ≡ some u → turn t ≡ continues u
+unfolding afterCycles onTurn
+cycles-then zero s t u p q = go (turn t) refl (let e : s ≡ t = cc in rw e at q)
+  where
+    go : (x : Turn) → turn t ≡ x → onTurn x none (λ _. none) (λ t. some t) ≡ some u → turn t ≡ continues u
+    go finishes e h = let z : _≡_ {A = ℕ} 0 1 = cc in absurd (omega arith)
+    go (stops r) e h = let z : _≡_ {A = ℕ} 0 1 = cc in absurd (omega arith)
+    go (continues v) e h = let w : v ≡ u = cc in e ∙ ap continues w
+cycles-then (suc k) s t u p q = go (turn s) p q (λ v. cycles-then k v t u)
+  where
+    go : (x : Turn) → onTurn x none (λ _. none) (λ v. afterCycles k v) ≡ some t → onTurn x none (λ _. none) (λ v. afterCycles (suc k) v) ≡ some u
+        → ((v : State) → afterCycles k v ≡ some t → afterCycles (suc k) v ≡ some u → turn t ≡ continues u) → turn t ≡ continues u
+    go finishes p q f = let z : _≡_ {A = ℕ} 0 1 = cc in absurd (omega arith)
+    go (stops r) p q f = let z : _≡_ {A = ℕ} 0 1 = cc in absurd (omega arith)
+    go (continues v) p q f = f v p q
 
 -- so many cycles given as the budget are done, and come where so many cycles come
 record Shown (k n : ℕ) (t : State) : Type 0 where
@@ -182,6 +199,13 @@ module _ (regions : Regions) (budget : ℕ) (s out : List ℕ) {r : Ran} {s′ o
           many = run-keeps-size regions k s out a;
           sound = run-keeps-sound regions k s out a f;
         }
+
+    -- from one of these to the next is one turn of the definition
+    pub next-cycle : (k : ℕ) → suc k ≤ r .cycles → {rₖ rₙ : Ran} {sₖ sₙ outₖ outₙ : List ℕ}
+        → numbers rₖ sₖ outₖ ≡ runOn regions k s out
+        → numbers rₙ sₙ outₙ ≡ runOn regions (suc k) s out
+        → turn (stateAt (regionsOf regions) sₖ outₖ (rₖ .len)) ≡ continues (stateAt (regionsOf regions) sₙ outₙ (rₙ .len))
+    next-cycle k h a b = cycles-then k (stateWith regions s [] (length out)) _ _ (every-cycle k (omega (arith, h)) a .after) (every-cycle (suc k) h b .after)
 
     -- it ends in the definition's state after as many cycles as it says, and for the reason that it says
     pub run-ends : (afterCycles (r .cycles) (stateWith regions s [] (length out)) ≡ some (stateAt (regionsOf regions) s′ out′ (r .len)))

@@ -1,8 +1,9 @@
 -- Demand 3 inside a cycle: whenever a cycle is accepted whose order executes J72, J71 or J74, it has done to the store what that process
 -- does, and besides that H1 has got the LINK. Each statement can be read without its proof.
 use Prim.Native.Nat.{ℕ, suc, _-_, _<_, _≤_}
-use mathlib.Core.Path.{_≡_, refl, sym, ap, _∙_}
-use mathlib.Core.List.{List, _∷_, reverse}
+use mathlib.Core.Path.{_≡_, refl, sym, ap, subst, _∙_}
+use mathlib.Core.Bool.{Bool, true, false}
+use mathlib.Core.List.{List, [], _∷_, reverse}
 use mathlib.Core.Logic.{_≢_}
 use native.Mathlib.Omega.{arith}
 use borrow.Author.Tests.{ne-eqb}
@@ -15,6 +16,7 @@ use Rattle.paper.specs.Act.{Act, Res, done, refused, _>>=_, _>>_, ret, refuseIf
 use Rattle.paper.specs.Walk.{walkBack, chainBack}
 use Rattle.paper.specs.Process.{J71, J72, J74, Next, perform, thenOn, listed, performIn}
 use Rattle.paper.specs.Cycle.{Control, goesOn, finish, performs, execute, executes, operate, toLink, advance, cycle}
+use Rattle.paper.specs.Run.{Turn, finishes, continues, isFinished, alone, joined, afterCycle, turn}
 use Rattle.paper.proofs.SoundStore.{Frame, at, CellOk}
 use Rattle.paper.proofs.SoundTest.{sound-from}
 use Rattle.paper.proofs.Demand1.{Runnable}
@@ -122,29 +124,35 @@ module _ (s : State) (r : Runnable s) (n : ℕ) (few : J n < firstDeck) (m : Act
             let f = cycle-is ∙ after-bind (operate 0 (o .x)) s (operates ∙ done-too (λ z. execute (length (s .cells)) z) u h) (advance l) ∙ advanced u in
             (u, h, cc)
 
--- An accepted cycle whose order executes J72: the cell below H0 and those that the walk met are free, and nothing else has changed (`Erased` of
--- paper/proofs/Demand3); then H1 got the LINK.
+-- From s to t a cycle has freed the cell below H0 and the cells that m met, and changed nothing else (`Erased` of paper/proofs/Demand3); then
+-- H1 got the LINK l.
+pub record ErasesIn (l : ℕ) (m : Act (List ℕ)) (s t : State) : Type 0 where
+  pub back : List ℕ
+  pub met : m s ≡ done back s
+  pub between : State
+  pub erased : Erased s between (inH0 s .link ∷ reverse back)
+  pub link : t ≡ goingTo (nameIn (between .regions) l) between
+
 module _ (s t : State) (r : Runnable s) (l : ℕ) where
-  pub J72-in-cycle : Executes 72 l s → cycle s ≡ done tt t
-      → (u : State) × (back : List ℕ) × (walkBack (inH0 s .symb) s ≡ done back s) × Erased s u (inH0 s .link ∷ reverse back)
-      × (t ≡ goingTo (nameIn (u .regions) l) u)
-  unfolding perform performIn listed ifThen
-  J72-in-cycle o e =
-      let (u, d, h) = accepted s r 72 (omega arith) J72 refl l o t e in
-      let (back, w, x) = J72-frees s u r d in
-      (u, back, w, x, h)
+  erases-in : (n : ℕ) → J n < firstDeck → (p : Act (Unit {0})) → perform n ≡ thenOn p → (m : Act (List ℕ))
+      → ((u : State) → p s ≡ done tt u → (back : List ℕ) × (m s ≡ done back s) × Erased s u (inH0 s .link ∷ reverse back))
+      → Executes n l s → cycle s ≡ done tt t → ErasesIn l m s t
+  erases-in n few p does m frees o e =
+      let (u, d, h) = accepted s r n few p does l o t e in
+      let (back, w, x) = frees u d in
+      record { back = back; met = w; between = u; erased = x; link = h }
 
-  -- and J71, those of the chain
-  pub J71-in-cycle : Executes 71 l s → cycle s ≡ done tt t
-      → (u : State) × (back : List ℕ) × (chainBack (inH0 s .symb) s ≡ done back s) × Erased s u (inH0 s .link ∷ reverse back)
-      × (t ≡ goingTo (nameIn (u .regions) l) u)
+  -- whenever a cycle that executes J72 is accepted, it erases what the walk of the symbol in H0 meets
+  pub J72-in-cycle : Executes 72 l s → cycle s ≡ done tt t → ErasesIn l (walkBack (inH0 s .symb)) s t
   unfolding perform performIn listed ifThen
-  J71-in-cycle o e =
-      let (u, d, h) = accepted s r 71 (omega arith) J71 refl l o t e in
-      let (back, w, x) = J71-frees s u r d in
-      (u, back, w, x, h)
+  J72-in-cycle = erases-in 72 (omega arith) J72 refl (walkBack (inH0 s .symb)) (λ u d. J72-frees s u r d)
 
-  -- and J74: the structure that H0 names is copied (`Copied`)
+  -- and J71, what the chain of it meets
+  pub J71-in-cycle : Executes 71 l s → cycle s ≡ done tt t → ErasesIn l (chainBack (inH0 s .symb)) s t
+  unfolding perform performIn listed ifThen
+  J71-in-cycle = erases-in 71 (omega arith) J71 refl (chainBack (inH0 s .symb)) (λ u d. J71-frees s u r d)
+
+  -- and J74: the structure that H0 names is copied (`Copied`); then H1 got the LINK
   pub J74-in-cycle : Executes 74 l s → cycle s ≡ done tt t
       → (u : State) × (back : List ℕ) × (news : List ℕ) × (walkBack (inH0 s .symb) s ≡ done back s) × Copied s u (reverse back) news
       × (t ≡ goingTo (nameIn (u .regions) l) u)
@@ -153,3 +161,29 @@ module _ (s t : State) (r : Runnable s) (l : ℕ) where
       let (u, d, h) = accepted s r 74 (omega arith) J74 refl l o t e in
       let (back, news, w, x) = J74-copy s u r d in
       (u, back, news, w, x, h)
+
+-- A turn of a run that goes on has done a cycle, which sees only its own line
+turn-done : (t u : State) → turn t ≡ continues u → (v : State) × (cycle (alone t) ≡ done tt v) × (joined t v ≡ u)
+unfolding turn afterCycle
+turn-done t u e = go (isFinished t) (cycle (alone t)) refl e
+  where
+    go : (b : Bool) (x : Res State Refusal (Unit {0})) → cycle (alone t) ≡ x
+        → elim b as (λ _. Turn) [ true ↦ finishes | false ↦ afterCycle t x ] ≡ continues u → (v : State) × (cycle (alone t) ≡ done tt v) × (joined t v ≡ u)
+    go true x p q = let z : _≡_ {A = ℕ} 0 1 = cc in absurd (omega arith)
+    go false (done a v) p q = (v, p, cc)
+    go false (refused r) p q = let z : _≡_ {A = ℕ} 0 1 = cc in absurd (omega arith)
+
+-- an erasure prints nothing
+erased-alone : {l : ℕ} {m : Act (List ℕ)} (t : State) {u v : State} → joined t v ≡ u → ErasesIn l m (alone t) v → ErasesIn l m (alone t) (alone u)
+erased-alone {l} {m} t {v = v} j e =
+    let p : v .lines ≡ [] = ap (λ (x : State). x .lines) (e .link) ∙ ap (λ (x : State). x .lines) (e .erased .rest) in
+    let q : v ≡ alone v = λ i. record { cells = v .cells; regions = v .regions; lines = p i; room = v .room } in
+    subst (ErasesIn l m (alone t)) (q ∙ ap alone j) e
+
+-- The same of a turn of a run
+module _ (t u : State) (r : Runnable (alone t)) (l : ℕ) (goes : turn t ≡ continues u) where
+  pub J72-in-turn : Executes 72 l (alone t) → ErasesIn l (walkBack (inH0 t .symb)) (alone t) (alone u)
+  J72-in-turn o = let (v, d, j) = turn-done t u goes in erased-alone t j (J72-in-cycle (alone t) v r l o d)
+
+  pub J71-in-turn : Executes 71 l (alone t) → ErasesIn l (chainBack (inH0 t .symb)) (alone t) (alone u)
+  J71-in-turn o = let (v, d, j) = turn-done t u goes in erased-alone t j (J71-in-cycle (alone t) v r l o d)
