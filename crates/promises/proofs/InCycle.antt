@@ -11,7 +11,7 @@ use lib.ListN.{length, set}
 use Rattle.paper.specs.declared.Refusal.{Refusal}
 use Rattle.paper.specs.declared.Symbol.{Symbol}
 use Rattle.paper.specs.Limits.{firstDeck}
-use Rattle.paper.specs.Cell.{Cell, free, word, term, process, Word, wordIn, withSymbol, cellAt, State, withCells, H, J, nameIn}
+use Rattle.paper.specs.Cell.{sizeFits, Cell, free, word, term, process, Word, wordIn, withSymbol, cellAt, State, withCells, H, J, nameIn}
 use Rattle.paper.specs.Act.{Act, Res, done, refused, _>>=_, _>>_, ret, refuseIf, ifThen, choose, peek, put, own, nameOf, sized, touch, notOwn, ownStore}
 use Rattle.paper.specs.Walk.{walkBack, chainBack}
 use Rattle.paper.specs.Process.{J71, J72, J74, Next, perform, thenOn, listed, performIn}
@@ -21,8 +21,16 @@ use Rattle.paper.proofs.SoundStore.{Frame, at, CellOk}
 use Rattle.paper.proofs.SoundTest.{sound-from}
 use Rattle.paper.proofs.Demand1.{Runnable}
 use Rattle.paper.proofs.Demand3.{inH0, Erased, Copied, J71-frees, J72-frees, J74-copy}
+use Rattle.regions.specs.declared.Regions.{Regions}
+use Rattle.regions.specs.Table.{regionsOf}
+use Rattle.sound.specs.Store.{stateWith}
 use Rattle.cycle.specs.Order.{fetch}
+use Rattle.cycle.specs.Turns.{stateAt}
 use Rattle.cycle.proofs.OrderLaws.{doing, interprets}
+use Rattle.machine.specs.declared.Ran.{Ran}
+use Rattle.machine.specs.Numbers.{numbers, runOn}
+use Rattle.machine.proofs.Carried.{Before, runnable}
+use Rattle.promises.proofs.EveryCycle.{was-sound, every-cycle, next-cycle}
 
 -- the word in H1, and the store with the symbol x in H1
 abbrev pub inH1 : State → Word
@@ -187,3 +195,36 @@ module _ (t u : State) (r : Runnable (alone t)) (l : ℕ) (goes : turn t ≡ con
 
   pub J71-in-turn : Executes 71 l (alone t) → ErasesIn l (chainBack (inH0 t .symb)) (alone t) (alone u)
   J71-in-turn o = let (v, d, j) = turn-done t u goes in erased-alone t j (J71-in-cycle (alone t) v r l o d)
+
+-- The same of the call machine::run, whose answer is neither 1 nor 20: sₖ are the numbers after k of its cycles and sₙ those after one more, as the
+-- runs with these budgets leave them (`every-cycle`). A store is that of its numbers, with no line and the room that is left
+module _ (regions : Regions) (budget : ℕ) (s out : List ℕ) {r : Ran} {s′ out′ : List ℕ} (allowed : numbers r s′ out′ ≡ runOn regions budget s out)
+    (began : Before (r .answer) → ⊥) (k : ℕ) (more : suc k ≤ r .cycles) {rₖ rₙ : Ran} {sₖ sₙ outₖ outₙ : List ℕ}
+    (before : numbers rₖ sₖ outₖ ≡ runOn regions k s out) (after : numbers rₙ sₙ outₙ ≡ runOn regions (suc k) s out) (l : ℕ)
+  where
+    -- the stores before and after the cycle
+    abbrev pub store : State
+    store = stateWith regions sₖ [] (length outₖ - rₖ .len)
+
+    abbrev pub next : State
+    next = stateWith regions sₙ [] (length outₙ - rₙ .len)
+
+    abbrev stood : State
+    stood = stateAt (regionsOf regions) sₖ outₖ (rₖ .len)
+
+    abbrev stands : State
+    stands = stateAt (regionsOf regions) sₙ outₙ (rₙ .len)
+
+    goes : turn stood ≡ continues stands
+    goes = next-cycle regions budget s out allowed began k more before after
+
+    runs : Runnable store
+    runs =
+        let c = every-cycle regions budget s out allowed began k (omega (arith, more)) before in
+        runnable regions sₖ (ap sizeFits (c .many) ∙ was-sound regions budget s out allowed began .0) (c .sound) [] (length outₖ - rₖ .len)
+
+    pub J72-in-run : Executes 72 l store → ErasesIn l (walkBack (inH0 store .symb)) store next
+    J72-in-run = J72-in-turn stood stands runs l goes
+
+    pub J71-in-run : Executes 71 l store → ErasesIn l (chainBack (inH0 store .symb)) store next
+    J71-in-run = J71-in-turn stood stands runs l goes
