@@ -11,6 +11,7 @@ use Rattle.paper.specs.Cell.{sizeFits}
 use Rattle.paper.specs.Act.{Act}
 use Rattle.paper.specs.Plain.{preserveH0}
 use Rattle.paper.specs.Process.{J72, J74}
+use Rattle.paper.specs.Program.{printout}
 use Rattle.paper.proofs.Demand1.{one-outcome as same}
 use Rattle.regions.specs.declared.Regions.{Regions}
 use Rattle.sound.specs.declared.Asked.{Asked}
@@ -23,6 +24,8 @@ use Rattle.deck.specs.Load.{Loads}
 use Rattle.machine.specs.declared.Ran.{Ran}
 use Rattle.machine.specs.Numbers.{numbers as ranNumbers, runOn}
 use Rattle.machine.proofs.Carried.{one-outcome as run-one}
+use Rattle.desk.specs.declared.Printout.{Printout}
+use Rattle.desk.specs.Page.{printed}
 use Rattle.plain.specs.declared.Met.{Met}
 use Rattle.plain.specs.Numbers.{Numbers, numbers, plainOn}
 use Rattle.plain.specs.Walks.{walkOn}
@@ -77,3 +80,7 @@ asks-coincides r s (Top a) (Top b) p q = ap Top (same (sym (p .end)) (sym (q .en
 asks-coincides r s (Top a) (Not b) p q = let e : none ≡ some b = sym (fit r s (p .size) (p .sound)) ∙ q in cc
 asks-coincides r s (Not a) (Top b) p q = let e : none ≡ some a = sym (fit r s (q .size) (q .sound)) ∙ p in cc
 asks-coincides r s (Not a) (Not b) p q = let e : some a ≡ some b = same (sym p) (sym q) in cc
+
+-- desk::replay: how many bytes are printed, and every byte
+pub replay-coincides : (input : List ℕ) {p₁ p₂ : Printout} → p₁ ≡ printed (printout input) → p₂ ≡ printed (printout input) → p₁ ≡ p₂
+replay-coincides input p q = same p q
