@@ -83,13 +83,13 @@ past-zeros out room more len few sized kept =
     ∙ ap (λ k. replicate k 0) e
 
 -- a run in the first bytes of a page, z, and the rest of the page
-module _ (regions : Regions) (s : List ℕ) {ran : Ran} {s′ out z rest : List ℕ} (lent : z ≡ replicate programRoom 0) (kept : rest ≡ replicate longestLine 0)
-    (e : numbers ran s′ out ≡ runOn regions largestBudget s z) where
+module _ (regions : Regions) (budget : ℕ) (s : List ℕ) {ran : Ran} {s′ out z rest : List ℕ} (lent : z ≡ replicate programRoom 0)
+    (kept : rest ≡ replicate longestLine 0) (e : numbers ran s′ out ≡ runOn regions budget s z) where
   long : length z ≡ programRoom
   long = ap length lent ∙ length-replicate {A = ℕ} programRoom 0
 
   abbrev past : (drop (ran .len) out ≡ drop (ran .len) z) × (ran .len ≤ length z) × (length out ≡ length z)
-  past = run-keeps-past regions largestBudget s z e
+  past = run-keeps-past regions budget s z e
 
   within : ran .len ≤ length out
   within = omega (arith, past .1, past .2)
@@ -106,12 +106,12 @@ module _ (regions : Regions) (s : List ℕ) {ran : Ran} {s′ out z rest : List 
       )
 
   pub run-prints : {p : Printout} {a : ℕ} → p ≡ printed (take (ran .len) (out ++ rest) ++ answerLine a) → a ≡ runNumber (ran .answer)
-      → p ≡ printed (runText (runOn regions largestBudget s (replicate programRoom 0)))
+      → p ≡ printed (runText (runOn regions budget s (replicate programRoom 0)))
   run-prints {a = a} p n =
       p
       ∙ ap (λ x. printed (x ++ answerLine a)) (take-append-le (ran .len) out rest within)
       ∙ ap (λ a. printed (take (ran .len) out ++ answerLine a)) n
-      ∙ ap (λ x. printed (runText x)) (e ∙ ap (λ x. runOn regions largestBudget s x) lent)
+      ∙ ap (λ x. printed (runText x)) (e ∙ ap (λ x. runOn regions budget s x) lent)
 
 unpacked-zeros : (n : ℕ) → unpacked (replicate n 0) ≡ replicate n (word zeros)
 unfolding unpackOf
