@@ -1,13 +1,6 @@
 -- What code that decides by the number of a process owes, an arm at a time: `search arms` finds an arm's proof, whatever its number; the last
 -- arm, of what is not listed, is `unlisted`. But for J1, which the cycle does, control goes on after a process.
-use Prim.Native.Nat.{ℕ, _+_, _-_, _≤_}
-use mathlib.Core.Path.{_≡_}
-use mathlib.Core.Bool.{true}
-use mathlib.Core.List.{List}
-use mathlib.Core.Option.{Option, some}
-use native.Mathlib.Nat.{le-refl}
-use native.Mathlib.Omega.{arith}
-use lib.Dec.{lit≤}
+use Rattle.paper.proofs.Kit.{ℕ, _+_, _-_, _≤_, _≡_, true, List, Option, some, le-refl, arith, lit≤}
 use Rattle.paper.specs.declared.Refusal.{Refusal}
 use Rattle.paper.specs.declared.Refusal.the-variants.{NotListed}
 use Rattle.paper.specs.Cell.{State, J}

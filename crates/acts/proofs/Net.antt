@@ -1,15 +1,6 @@
 -- Pop, then push x, is `stays x` wherever H2 is a word: the cell that the pop frees is the one that the push takes.
-use mathlib.Core.Path.{_≡_, refl, sym, ap, _∙_}
-use mathlib.Core.Bool.{Bool, true, false, _&&_, not}
-use mathlib.Core.List.{List, [], _∷_}
-use mathlib.Core.Logic.{_≢_}
-use mathlib.Core.Option.{Option}
-use Prim.Native.Nat.{ℕ, zero, suc, _+_, _<_, _≤_}
-use native.Mathlib.Omega.{arith}
-use borrow.Author.Tests.{eqb-false, ltb-false, lt-ltb}
-use lib.Dec.{eqb, ltb}
-use lib.ListN.{length, set, length-set}
-use lib.Seq.{getD-set-same, getD-set-other, set-set, set-comm, set-getD}
+use Rattle.paper.proofs.Kit.{_≡_, refl, sym, ap, _∙_, Bool, true, false, _&&_, not, List, [], _∷_, _≢_, Option, ℕ, zero, suc, _+_, _<_, _≤_, arith, eqb-false}
+use Rattle.paper.proofs.Kit.{ltb-false, lt-ltb, eqb, ltb, length, set, length-set, getD-set-same, getD-set-other, set-set, set-comm, set-getD}
 use Rattle.paper.specs.declared.Symbol.{Symbol}
 use Rattle.paper.specs.declared.Refusal.{Refusal}
 use Rattle.paper.specs.declared.Refusal.the-variants.{FreeCell, WrongKind, NotToBeFreed, NothingBelow}

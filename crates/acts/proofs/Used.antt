@@ -1,10 +1,5 @@
 -- A cell that is touched, by what the code has found out of it, in the form in which `search touching` finds the proof of a way out.
-use Prim.Native.Nat.{ℕ}
-use mathlib.Core.Path.{_≡_, refl, _∙_, sym}
-use mathlib.Core.Logic.{_≢_}
-use mathlib.Core.Bool.{Bool, true, false}
-use mathlib.Core.List.{List}
-use mathlib.Core.Option.{Option, some}
+use Rattle.paper.proofs.Kit.{ℕ, _≡_, refl, _∙_, sym, _≢_, Bool, true, false, List, Option, some}
 use Rattle.paper.specs.declared.Refusal.{Refusal}
 use Rattle.paper.specs.declared.Refusal.the-variants.{CellZero, FreeCell}
 use Rattle.paper.specs.Cell.{Cell, free, word, term, process, isFree, isWord, isTerm}

@@ -1,13 +1,6 @@
 -- Laws of the locals in two arrays.
-use Prim.Native.Nat.{ℕ, zero, suc, _+_, _<_, _≤_}
-use mathlib.Core.Bool.{Bool, true, false, _&&_, _||_, not}
-use mathlib.Core.List.{List, [], _∷_}
-use mathlib.Core.Path.{_≡_, refl, ap, _∙_, sym}
-use native.Mathlib.Omega.{arith}
-use native.Mathlib.Numerals.{add-one}
-use lib.Dec.{eqb}
-use lib.ListN.{length, getD, set, drop, drop-of-length-le}
-use lib.Seq.{drop-cons}
+use Rattle.paper.proofs.Kit.{ℕ, zero, suc, _+_, _<_, _≤_, Bool, true, false, _&&_, _||_, not, List, [], _∷_, _≡_, refl, ap, _∙_, sym, arith, add-one, eqb}
+use Rattle.paper.proofs.Kit.{length, getD, set, drop, drop-of-length-le, drop-cons}
 use Rattle.paper.specs.Deck.{LocalCell, noLocal, localAt, allWords}
 use Rattle.book.specs.Kept.{localsOf}
 

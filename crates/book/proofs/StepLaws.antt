@@ -1,13 +1,6 @@
 -- Laws of the lines that write: what the code stores is what the block makes of the book.
-use Prim.Native.Nat.{ℕ, _*_, _^_, _<_, _≤_}
-use mathlib.Core.Bool.{Bool, true, false}
-use mathlib.Core.List.{List}
-use mathlib.Core.Path.{_≡_, refl, ap, sym, _∙_}
-use mathlib.Core.Option.{Option}
-use borrow.Author.Tests.{ltb-true, ltb-false}
-use lib.Dec.{ltb}
-use lib.ListN.{set, replicate}
-use lib.Seq.{set-getD}
+use Rattle.paper.proofs.Kit.{ℕ, _*_, _^_, _<_, _≤_, Bool, true, false, List, _≡_, refl, ap, sym, _∙_, Option, ltb-true, ltb-false, ltb, set, replicate}
+use Rattle.paper.proofs.Kit.{set-getD}
 use Rattle.paper.specs.declared.Fault.{Fault}
 use Rattle.paper.specs.Limits.{manyLocals}
 use Rattle.paper.specs.Cell.{Region, Cell, free, word, withLink, emptyWord, freeLink}

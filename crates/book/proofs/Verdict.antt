@@ -1,12 +1,5 @@
 -- What a verdict says.
-use Prim.Native.Nat.{ℕ, zero, suc, _<_}
-use mathlib.Core.Path.{_≡_, refl, _∙_}
-use mathlib.Core.Bool.{true, false}
-use mathlib.Core.List.{List, [], _∷_}
-use mathlib.Core.Option.{none, some}
-use native.Mathlib.Omega.{arith}
-use borrow.Author.Tests.{ne-eqb}
-use lib.Dec.{eqb}
+use Rattle.paper.proofs.Kit.{ℕ, zero, suc, _<_, _≡_, refl, _∙_, true, false, List, [], _∷_, none, some, arith, ne-eqb, eqb}
 use Rattle.paper.specs.declared.Fault.the-variants.{NotEnded}
 use Rattle.paper.specs.Walk.{member}
 use Rattle.steps.proofs.Rest.{Rest, not-in}

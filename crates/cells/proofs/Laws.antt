@@ -1,11 +1,6 @@
 -- Laws of the packed cell: a cell by the range of its number, and both round trips.
-use Prim.Native.Nat.{ℕ, suc, _+_, _-_, _*_, _%_, _^_, _<_, _≤_}
-use mathlib.Core.Bool.{Bool, true, false, cond}
-use mathlib.Core.Path.{_≡_, refl, ap, _∙_, sym}
-use native.Mathlib.Omega.{arith}
-use borrow.Author.Tests.{lt-ltb, le-ltb, ltb-true, ltb-false}
-use lib.Dec.{ltb}
-use lib.IntN.{ℤ, pos, negsuc}
+use Rattle.paper.proofs.Kit.{ℕ, suc, _+_, _-_, _*_, _%_, _^_, _<_, _≤_, Bool, true, false, cond, _≡_, refl, ap, _∙_, sym, arith, lt-ltb, le-ltb, ltb-true}
+use Rattle.paper.proofs.Kit.{ltb-false, ltb, ℤ, pos, negsuc}
 use Rattle.paper.specs.Cell.{Word, mkWord, Cell, free, word, term, integer, process, wordIn, linkIn}
 use Rattle.cells.specs.Layout.{unpackOf, wordOf, linkOf, symbOf, qOf, pOf, valueOf, termOf}
 use Rattle.cells.specs.Pack.{excess, packOf, WordFits, IntegerFits, CellFits, Valid, a-word, a-free, a-term, a-process, Packs}

@@ -1,9 +1,5 @@
 -- Laws of the bridge: a cell read and written through `map unpackOf`, and stores whose numbers are all formed.
-use Prim.Native.Nat.{ℕ, zero, suc, _<_, _≤_}
-use mathlib.Core.List.{List, [], _∷_}
-use mathlib.Core.Path.{_≡_, refl, ap}
-use native.Mathlib.Omega.{arith}
-use lib.ListN.{length, getD, set}
+use Rattle.paper.proofs.Kit.{ℕ, zero, suc, _<_, _≤_, List, [], _∷_, _≡_, refl, ap, arith, length, getD, set}
 use Rattle.paper.specs.Cell.{Cell, free}
 use Rattle.cells.specs.Layout.{unpackOf}
 use Rattle.cells.specs.Pack.{packOf, AllFormed, packed}

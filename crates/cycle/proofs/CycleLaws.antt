@@ -1,9 +1,5 @@
 -- Steps 2 and 3 from their parts.
-use Prim.Native.Nat.{ℕ, _≤_}
-use mathlib.Core.Path.{_≡_, ap}
-use mathlib.Core.List.{List, []}
-use borrow.Author.Tests.{eq-eqb, ne-eqb}
-use lib.ListN.{length, getD}
+use Rattle.paper.proofs.Kit.{ℕ, _≤_, _≡_, ap, List, [], eq-eqb, ne-eqb, length, getD}
 use Rattle.paper.specs.Cell.{H, Word}
 use Rattle.paper.specs.Act.{Act, own}
 use Rattle.paper.specs.Cycle.{ascend, interpret, cycle}

@@ -1,14 +1,6 @@
 -- `execute` past all J1: a refusal, a process by its family, or a descent.
-use Prim.Native.Nat.{ℕ, suc, _+_, _-_, _*_, _<_, _≤_}
-use mathlib.Core.Path.{_≡_, refl, sym, ap, _∙_, subst}
-use mathlib.Core.Logic.{_≢_}
-use mathlib.Core.Bool.{Bool, true, false, _&&_, true≢false}
-use mathlib.Core.Option.{Option, none, some}
-use mathlib.Core.List.{List, []}
-use native.Mathlib.Omega.{arith}
-use borrow.Author.Tests.{eq-eqb, eqb-false, ne-eqb}
-use lib.Dec.{eqb}
-use lib.ListN.{length, getD}
+use Rattle.paper.proofs.Kit.{ℕ, suc, _+_, _-_, _*_, _<_, _≤_, _≡_, refl, sym, ap, _∙_, subst, _≢_, Bool, true, false, _&&_, true≢false, Option, none, some}
+use Rattle.paper.proofs.Kit.{List, [], arith, eq-eqb, eqb-false, ne-eqb, eqb, length, getD}
 use Rattle.paper.specs.declared.Refusal.{Refusal}
 use Rattle.paper.specs.declared.Symbol.{Symbol}
 use Rattle.paper.specs.Cell.{Cell, Region, State, J, isProcess}

@@ -1,10 +1,5 @@
 -- What is fetched, by the kind of the cell; and a refusal with nothing to be done beside it.
-use Prim.Native.Nat.{ℕ}
-use mathlib.Core.Path.{_≡_, refl, sym, ap, subst, _∙_}
-use mathlib.Core.Logic.{_≢_}
-use mathlib.Core.Bool.{Bool, true, false}
-use mathlib.Core.List.{List}
-use mathlib.Core.Option.{Option, some}
+use Rattle.paper.proofs.Kit.{ℕ, _≡_, refl, sym, ap, subst, _∙_, _≢_, Bool, true, false, List, Option, some}
 use Rattle.paper.specs.declared.Refusal.{Refusal}
 use Rattle.paper.specs.declared.Refusal.the-variants.{WrongKind}
 use Rattle.paper.specs.declared.Symbol.{Symbol}

@@ -1,10 +1,5 @@
 -- Step 3 from its parts: nothing is done where the fetch was refused; else the operation, and then the LINK.
-use Prim.Native.Nat.{ℕ, _+_, _<_, _≤_}
-use mathlib.Core.Path.{_≡_, sym, ap, _∙_}
-use mathlib.Core.Option.{Option, none}
-use mathlib.Core.List.{List, []}
-use native.Mathlib.Omega.{arith}
-use lib.ListN.{length, getD}
+use Rattle.paper.proofs.Kit.{ℕ, _+_, _<_, _≤_, _≡_, sym, ap, _∙_, Option, none, List, [], arith, length, getD}
 use Rattle.paper.specs.Act.{Act, _>>=_}
 use Rattle.paper.specs.Cycle.{Control, operate, advance, interpret}
 use Rattle.steps.specs.Follows.{Follows}

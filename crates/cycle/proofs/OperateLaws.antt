@@ -1,12 +1,5 @@
 -- "Then by P": an operation after which control goes on, by its number; and the last, which branches.
-use Prim.Native.Nat.{ℕ, _<_, _≤_}
-use mathlib.Core.Path.{_≡_, sym, ap, _∙_}
-use mathlib.Core.Bool.{false}
-use mathlib.Core.List.{[], _∷_}
-use mathlib.Core.Option.{Option}
-use native.Mathlib.Omega.{arith}
-use borrow.Author.Tests.{ne-eqb}
-use lib.Dec.{eqb}
+use Rattle.paper.proofs.Kit.{ℕ, _<_, _≤_, _≡_, sym, ap, _∙_, false, [], _∷_, Option, arith, ne-eqb, eqb}
 use Rattle.paper.specs.declared.Refusal.{Refusal}
 use Rattle.paper.specs.declared.Symbol.{Symbol}
 use Rattle.paper.specs.Cell.{State}

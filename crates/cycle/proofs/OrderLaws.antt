@@ -1,8 +1,5 @@
 -- Step 3 in two parts, what is to be done and doing it, is step 3.
-use Prim.Native.Nat.{ℕ}
-use mathlib.Core.Path.{_≡_, refl, sym, ap, _∙_}
-use mathlib.Core.Bool.{Bool, true, false}
-use lib.Dec.{eqb}
+use Rattle.paper.proofs.Kit.{ℕ, _≡_, refl, sym, ap, _∙_, Bool, true, false, eqb}
 use Rattle.paper.specs.declared.Refusal.{Refusal}
 use Rattle.paper.specs.declared.Refusal.the-variants.{WrongKind}
 use Rattle.paper.specs.declared.Symbol.{Symbol}

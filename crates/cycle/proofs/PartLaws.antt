@@ -1,11 +1,6 @@
 -- Laws of a part of a cycle: one that prints nothing, one before or after another.
-use Prim.Native.Nat.{ℕ, _+_, _-_, _<_, _≤_}
-use mathlib.Core.Path.{_≡_, refl, sym, ap, subst, _∙_}
-use mathlib.Core.Option.{Option, none}
-use mathlib.Core.List.{List, []}
-use native.Mathlib.Omega.{arith}
-use lib.ListN.{length, getD, take, drop}
-use lib.Seq.{paste, paste-zero}
+use Rattle.paper.proofs.Kit.{ℕ, _+_, _-_, _<_, _≤_, _≡_, refl, sym, ap, subst, _∙_, Option, none, List, [], arith, length, getD, take, drop, paste}
+use Rattle.paper.proofs.Kit.{paste-zero}
 use Rattle.paper.specs.declared.Refusal.{Refusal}
 use Rattle.paper.specs.Limits.{firstDeck}
 use Rattle.paper.specs.Cell.{Region, endOfRegions}

@@ -1,14 +1,6 @@
 -- The laws of `Reaches`: a turn of J1, the last turn, and what follows.
-use Prim.Native.Nat.{ℕ, zero, suc, _+_, _-_, _<_, _≤_}
-use mathlib.Core.Path.{_≡_, refl, ap, _∙_, sym, subst}
-use mathlib.Core.Bool.{Bool, true, false, _&&_, and-false}
-use mathlib.Core.Option.{Option, none, some}
-use mathlib.Core.List.{List, []}
-use native.Mathlib.Omega.{arith}
-use native.Mathlib.Numerals.{add-one}
-use borrow.Author.Tests.{eqb-true, eqb-false, ne-eqb, eq-eqb, lt-ltb}
-use lib.Dec.{eqb, ltb}
-use lib.ListN.{length}
+use Rattle.paper.proofs.Kit.{ℕ, zero, suc, _+_, _-_, _<_, _≤_, _≡_, refl, ap, _∙_, sym, subst, Bool, true, false, _&&_, and-false, Option, none, some, List}
+use Rattle.paper.proofs.Kit.{[], arith, add-one, eqb-true, eqb-false, ne-eqb, eq-eqb, lt-ltb, eqb, ltb, length}
 use Rattle.paper.specs.declared.Refusal.{Refusal}
 use Rattle.paper.specs.declared.Refusal.the-variants.{CellZero, FreeCell, WrongKind}
 use Rattle.paper.specs.declared.Symbol.{Symbol}

@@ -1,10 +1,5 @@
 -- A cycle as a whole: what was accepted stands in cells and lines, what was refused in neither.
-use Prim.Native.Nat.{ℕ, _+_, _-_, _*_, _<_, _≤_}
-use mathlib.Core.Path.{_≡_, refl, sym, ap, subst, _∙_}
-use mathlib.Core.Option.{Option, none, some}
-use mathlib.Core.List.{List, [], _++_}
-use native.Mathlib.Omega.{arith}
-use lib.ListN.{length, take, drop}
+use Rattle.paper.proofs.Kit.{ℕ, _+_, _-_, _*_, _<_, _≤_, _≡_, refl, sym, ap, subst, _∙_, Option, none, some, List, [], _++_, arith, length, take, drop}
 use Rattle.paper.specs.declared.Refusal.{Refusal}
 use Rattle.paper.specs.Cell.{Region, State}
 use Rattle.paper.specs.Act.{Res, done, refused, _>>_, ret, refuse}

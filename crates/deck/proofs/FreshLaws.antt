@@ -1,12 +1,6 @@
 -- The cells before any word, and loops that fill a slice from the front.
-use Prim.Native.Nat.{ℕ, suc, _+_, _<_}
-use mathlib.Core.Bool.{Bool, false}
-use mathlib.Core.List.{List, [], _∷_}
-use mathlib.Core.Path.{_≡_, refl, ap, sym, _∙_, subst}
-use native.Mathlib.Omega.{arith}
-use native.Mathlib.Decide.{ℕ-discrete}
-use lib.ListN.{length, getD, set, replicate, getD-replicate, length-replicate}
-use lib.Seq.{getD-set-same, getD-set-other, ext-getD}
+use Rattle.paper.proofs.Kit.{ℕ, suc, _+_, _<_, Bool, false, List, [], _∷_, _≡_, refl, ap, sym, _∙_, subst, arith, ℕ-discrete, length, getD, set, replicate}
+use Rattle.paper.proofs.Kit.{getD-replicate, length-replicate, getD-set-same, getD-set-other, ext-getD}
 use Rattle.paper.specs.Limits.{firstDeck}
 use Rattle.paper.specs.Cell.{Region, endOfRegions, Cell, word, emptyWord}
 use Rattle.paper.specs.Deck.{freshCell, cellsFrom, fresh, freshBook}

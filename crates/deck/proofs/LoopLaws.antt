@@ -1,15 +1,6 @@
 -- The record loop: what holds at its head, each way out of it, and one turn.
-use Prim.Native.Nat.{ℕ, suc, _+_, _-_, _<_, _≤_}
-use mathlib.Core.Bool.{Bool, true, false, cond, _&&_, not}
-use mathlib.Core.List.{List, []}
-use mathlib.Core.Option.{Option, none, some}
-use mathlib.Core.Path.{_≡_, refl, ap, sym, _∙_, subst}
-use native.Mathlib.Omega.{arith}
-use native.Mathlib.Decide.{ℕ-discrete}
-use borrow.Author.Tests.{ltb-true, ltb-false, eq-eqb, ne-eqb}
-use lib.Dec.{ltb, eqb}
-use lib.ListN.{length, take, drop, set, length-drop}
-use lib.Seq.{take-all}
+use Rattle.paper.proofs.Kit.{ℕ, suc, _+_, _-_, _<_, _≤_, Bool, true, false, cond, _&&_, not, List, [], Option, none, some, _≡_, refl, ap, sym, _∙_, subst}
+use Rattle.paper.proofs.Kit.{arith, ℕ-discrete, ltb-true, ltb-false, eq-eqb, ne-eqb, ltb, eqb, length, take, drop, set, length-drop, take-all}
 use Rattle.paper.specs.declared.Fault.{Fault}
 use Rattle.paper.specs.declared.Fault.the-variants.{BadField, NotEnded}
 use Rattle.paper.specs.declared.Field.{Field}

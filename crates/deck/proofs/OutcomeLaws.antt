@@ -1,14 +1,6 @@
 -- The outcome of a load in numbers.
-use Prim.Native.Nat.{ℕ, zero, suc, _≤_}
-use mathlib.Core.Bool.{Bool, true, false, cond, _&&_, not}
-use mathlib.Core.List.{List, [], _∷_}
-use mathlib.Core.Path.{_≡_, refl, ap, sym, _∙_}
-use mathlib.Core.Option.{Option, none, some}
-use native.Mathlib.Omega.{arith}
-use borrow.Author.Tests.{leb-true, not-true, not-false}
-use lib.Dec.{leb}
-use lib.ListN.{length, take, replicate, length-replicate}
-use lib.Seq.{length-take-le}
+use Rattle.paper.proofs.Kit.{ℕ, zero, suc, _≤_, Bool, true, false, cond, _&&_, not, List, [], _∷_, _≡_, refl, ap, sym, _∙_, Option, none, some, arith}
+use Rattle.paper.proofs.Kit.{leb-true, not-true, not-false, leb, length, take, replicate, length-replicate, length-take-le}
 use Rattle.paper.specs.declared.Fault.{Fault}
 use Rattle.paper.specs.declared.LoadAnswer.the-variants.{Loaded as AnswerLoaded, BadSize, Broken}
 use Rattle.paper.specs.Limits.{smallestN, largestN}

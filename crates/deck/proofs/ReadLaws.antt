@@ -1,14 +1,6 @@
 -- Reading a deck record by record: what one record comes to, and where the loop stands.
-use Prim.Native.Nat.{ℕ, zero, suc, _+_, _<_, _≤_}
-use mathlib.Core.Bool.{Bool, true, false}
-use mathlib.Core.List.{List, [], _∷_}
-use mathlib.Core.Option.{Option, none, some}
-use mathlib.Core.Path.{_≡_, refl, ap, sym, _∙_}
-use native.Mathlib.Omega.{arith}
-use borrow.Author.Tests.{eq-eqb, ne-eqb, lt-ltb, le-ltb, ltb-true, ltb-false}
-use lib.Dec.{ltb}
-use lib.ListN.{length, drop, length-drop, drop-of-length-le}
-use lib.Seq.{drop-drop}
+use Rattle.paper.proofs.Kit.{ℕ, zero, suc, _+_, _<_, _≤_, Bool, true, false, List, [], _∷_, Option, none, some, _≡_, refl, ap, sym, _∙_, arith, eq-eqb}
+use Rattle.paper.proofs.Kit.{ne-eqb, lt-ltb, le-ltb, ltb-true, ltb-false, ltb, length, drop, length-drop, drop-of-length-le, drop-drop}
 use Rattle.paper.specs.declared.Fault.{Fault}
 use Rattle.paper.specs.declared.Fault.the-variants.{PastEnd, UnknownKind, BadField, NotEnded}
 use Rattle.paper.specs.Step.{Res, done, refused, _>>=_, _>>_, refuse, refuseIf, ret}

@@ -1,11 +1,5 @@
 -- The lines of a record's block that write.
-use Prim.Native.Nat.{ℕ}
-use mathlib.Core.Bool.{Bool, true, false, _||_}
-use mathlib.Core.List.{List, [], _∷_, _++_}
-use mathlib.Core.Path.{_≡_, refl, ap, sym, _∙_, subst}
-use mathlib.Core.Option.{Option, none, some}
-use native.Mathlib.Omega.{arith}
-use lib.ListN.{set}
+use Rattle.paper.proofs.Kit.{ℕ, Bool, true, false, _||_, List, [], _∷_, _++_, _≡_, refl, ap, sym, _∙_, subst, Option, none, some, arith, set}
 use Rattle.paper.specs.Cell.{Region, Cell, word, mkWord, H, J}
 use Rattle.paper.specs.declared.Fault.{Fault}
 use Rattle.paper.specs.Step.{_>>_, refuseIf, becomes}

@@ -1,13 +1,6 @@
 -- The table that the loader makes, one region more at a time: 23 letters are enough.
-use Prim.Native.Nat.{ℕ, zero, suc, _+_, _<_, _≤_}
-use mathlib.Core.Bool.{Bool, true, false, cond, _||_, _&&_}
-use mathlib.Core.List.{List, [], _∷_, _++_}
-use mathlib.Core.Path.{_≡_, refl, ap, sym, _∙_}
-use native.Mathlib.Omega.{arith}
-use native.Mathlib.Decide.{ℕ-discrete, decLt}
-use borrow.Author.Tests.{eq-eqb, leb-true}
-use lib.Dec.{eqb, leb}
-use lib.ListN.{length, length-append}
+use Rattle.paper.proofs.Kit.{ℕ, zero, suc, _+_, _<_, _≤_, Bool, true, false, cond, _||_, _&&_, List, [], _∷_, _++_, _≡_, refl, ap, sym, _∙_, arith}
+use Rattle.paper.proofs.Kit.{ℕ-discrete, decLt, eq-eqb, leb-true, eqb, leb, length, length-append}
 use Rattle.paper.specs.Limits.{largestN, firstDeck}
 use Rattle.paper.specs.Region.{Region, endOfRegions, isLetter, layout, letterTaken}
 use Rattle.paper.proofs.RegionLaws.{end-more}

@@ -1,13 +1,7 @@
 -- Demand 1, carried to the loader's call: of every outcome that the contract of `deck::load` allows. Each statement can be read without its
 -- proof.
-use Prim.Native.Nat.{ℕ, zero, suc, _+_, _≤_}
-use mathlib.Core.Path.{_≡_, refl, sym, ap, subst, _∙_}
-use mathlib.Core.Bool.{Bool, true, false, cond}
-use mathlib.Core.List.{List, [], _∷_}
-use native.Mathlib.Omega.{arith}
-use lib.Dec.{ltb}
-use borrow.Author.Tests.{ltb-true}
-use lib.ListN.{length, replicate, length-map}
+use Rattle.paper.proofs.Kit.{ℕ, zero, suc, _+_, _≤_, _≡_, refl, sym, ap, subst, _∙_, Bool, true, false, cond, List, [], _∷_, arith, ltb, ltb-true, length}
+use Rattle.paper.proofs.Kit.{replicate, length-map}
 use Rattle.paper.specs.declared.Fault.{Fault}
 use Rattle.paper.specs.declared.Fault.the-variants.{PastEnd, UnknownKind, BadField, BadRegion, BadName, NoWord, NoCell, NotEnded}
 use Rattle.paper.specs.declared.LoadAnswer.{LoadAnswer}

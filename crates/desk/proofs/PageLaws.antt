@@ -1,12 +1,7 @@
 -- The page: lines, the answer's line, and zeros; and what the program prints, by the outcomes of its two calls.
-use Prim.Native.Nat.{ℕ, zero, suc, _+_, _-_, _<_, _≤_, min}
-use mathlib.Core.Path.{_≡_, refl, sym, ap, subst, _∙_}
-use mathlib.Core.Bool.{Bool, true, false}
-use mathlib.Core.List.{List, [], _∷_, _++_}
-use native.Mathlib.Omega.{arith}
-use native.Mathlib.Decide.{decLt}
-use lib.ListN.{length, take, drop, replicate, length-append, length-replicate, replicate-append-replicate}
-use lib.Seq.{length-take-le, drop-drop, drop-append-le, take-append-le, take-append-seam, take-all, take-length}
+use Rattle.paper.proofs.Kit.{ℕ, zero, suc, _+_, _-_, _<_, _≤_, min, _≡_, refl, sym, ap, subst, _∙_, Bool, true, false, List, [], _∷_, _++_, arith, decLt}
+use Rattle.paper.proofs.Kit.{length, take, drop, replicate, length-append, length-replicate, replicate-append-replicate, length-take-le, drop-drop}
+use Rattle.paper.proofs.Kit.{drop-append-le, take-append-le, take-append-seam, take-all, take-length}
 use Rattle.paper.specs.declared.LoadAnswer.{LoadAnswer}
 use Rattle.paper.specs.declared.LoadAnswer.the-variants.{Loaded as AnswerLoaded, BadSize, Broken}
 use Rattle.paper.specs.Limits.{largestBudget, programDeck, programCells, programRoom, longestLine, longestPrintout}

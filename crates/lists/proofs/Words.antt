@@ -1,10 +1,5 @@
 -- Words by their numbers: an end, and what was made for a word.
-use Prim.Native.Nat.{ℕ, _*_, _%_, _^_}
-use mathlib.Core.Bool.{Bool, true, false}
-use mathlib.Core.Path.{_≡_, refl, ap, _∙_, sym}
-use native.Mathlib.Omega.{arith}
-use borrow.Author.Tests.{eq-eqb, ne-eqb, eqb-true, eqb-false, ltb-true}
-use lib.Dec.{eqb, ltb}
+use Rattle.paper.proofs.Kit.{ℕ, _*_, _%_, _^_, Bool, true, false, _≡_, refl, ap, _∙_, sym, arith, eq-eqb, ne-eqb, eqb-true, eqb-false, ltb-true, eqb, ltb}
 use Rattle.paper.specs.declared.Symbol.{Symbol}
 use Rattle.paper.specs.Cell.{Word, word, mkWord, symbolOf, isWord, wordIn}
 use Rattle.paper.specs.Process.{isEnd}

@@ -1,15 +1,7 @@
 -- Demands 1 and 2, carried to the call: of every outcome that the contract of `run` allows. A budget may be any number of cycles, so
 -- what is said of a run is said after each of its cycles. Each statement can be read without its proof.
-use Prim.Native.Nat.{ℕ, zero, suc, _+_, _≤_}
-use mathlib.Core.Path.{_≡_, refl, sym, ap, subst, _∙_}
-use mathlib.Core.Bool.{Bool, true, false}
-use mathlib.Core.Logic.{_⊎_, ⊎-elim}
-use mathlib.Core.List.{List, [], _++_}
-use native.Mathlib.Omega.{arith}
-use lib.ListN.{length, drop, length-append, length-drop, length-map}
-use lib.Seq.{drop-append-seam}
-use lib.Dec.{leb}
-use borrow.Author.Tests.{leb-true, leb-false}
+use Rattle.paper.proofs.Kit.{ℕ, zero, suc, _+_, _≤_, _≡_, refl, sym, ap, subst, _∙_, Bool, true, false, _⊎_, ⊎-elim, List, [], _++_, arith, length, drop}
+use Rattle.paper.proofs.Kit.{length-append, length-drop, length-map, drop-append-seam, leb, leb-true, leb-false}
 use Rattle.paper.specs.declared.Refusal.{Refusal}
 use Rattle.paper.specs.declared.RunAnswer.{RunAnswer}
 use Rattle.paper.specs.declared.RunAnswer.the-variants.{Finished, BadSize, BudgetSpent, NotSound, Refused}

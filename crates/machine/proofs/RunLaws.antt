@@ -1,15 +1,6 @@
 -- A run by what its cycles came to.
-use Prim.Native.Nat.{ℕ, zero, suc, _+_, _-_, _<_, _≤_}
-use mathlib.Core.Path.{_≡_, refl, sym, ap, subst, _∙_}
-use mathlib.Core.Bool.{Bool, true, false, _&&_}
-use lib.Dec.{leb}
-use borrow.Author.Tests.{leb-true, lt-leb, le-leb}
-use mathlib.Core.List.{List, [], _++_}
-use mathlib.Core.Option.{some}
-use native.Mathlib.Omega.{arith}
-use native.Mathlib.Numerals.{add-one}
-use lib.ListN.{length, take, drop, take-append-drop}
-use lib.Seq.{length-take-le, drop-drop}
+use Rattle.paper.proofs.Kit.{ℕ, zero, suc, _+_, _-_, _<_, _≤_, _≡_, refl, sym, ap, subst, _∙_, Bool, true, false, _&&_, leb, leb-true, lt-leb, le-leb, List}
+use Rattle.paper.proofs.Kit.{[], _++_, some, arith, add-one, length, take, drop, take-append-drop, length-take-le, drop-drop}
 use Rattle.paper.specs.declared.Refusal.{Refusal}
 use Rattle.paper.specs.declared.RunAnswer.{RunAnswer}
 use Rattle.paper.specs.declared.RunAnswer.the-variants.{Finished, BadSize, BudgetSpent, NotSound, Refused}

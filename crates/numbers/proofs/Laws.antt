@@ -1,12 +1,6 @@
 -- Laws of integers that stand as numbers of the code: sums, differences, what fits 32 bits, order.
-use Prim.Native.Nat.{ℕ, zero, suc, _+_, _-_, _*_, _/_, _%_, _^_, _<_, _≤_}
-use mathlib.Core.Bool.{Bool, true, false, cond, _&&_, not}
-use mathlib.Core.Path.{_≡_, refl, ap, _∙_, sym}
-use native.Mathlib.Omega.{arith}
-use borrow.Author.Tests.{lt-ltb, le-ltb, eq-eqb, ne-eqb, ltb-true, ltb-false}
-use lib.Dec.{ltb, eqb}
-use lib.IntN.{ℤ, pos, negsuc, subℕ, negℤ, _+ℤ_, _-ℤ_}
-use lib.Signed.{ltZ}
+use Rattle.paper.proofs.Kit.{ℕ, zero, suc, _+_, _-_, _*_, _/_, _%_, _^_, _<_, _≤_, Bool, true, false, cond, _&&_, not, _≡_, refl, ap, _∙_, sym, arith, lt-ltb}
+use Rattle.paper.proofs.Kit.{le-ltb, eq-eqb, ne-eqb, ltb-true, ltb-false, ltb, eqb, ℤ, pos, negsuc, subℕ, negℤ, _+ℤ_, _-ℤ_, ltZ}
 use Rattle.paper.specs.Cell.{integer, termFits}
 use Rattle.paper.specs.Process.{equalZ}
 use Rattle.cells.specs.Layout.{valueOf}

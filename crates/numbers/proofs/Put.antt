@@ -1,13 +1,5 @@
 -- A result of an operation that fits, or does not, and an integer that the code has computed.
-use Prim.Native.Nat.{ℕ, _-_, _/_, _%_, _^_, _≤_}
-use mathlib.Core.Bool.{true, false, not}
-use mathlib.Core.Path.{_≡_, ap, _∙_, sym, subst}
-use mathlib.Core.Logic.{_≢_}
-use mathlib.Core.List.{List}
-use mathlib.Core.Option.{Option}
-use native.Mathlib.Omega.{arith}
-use borrow.Author.Tests.{eq-eqb, ne-eqb}
-use lib.IntN.{ℤ}
+use Rattle.paper.proofs.Kit.{ℕ, _-_, _/_, _%_, _^_, _≤_, true, false, not, _≡_, ap, _∙_, sym, subst, _≢_, List, Option, arith, eq-eqb, ne-eqb, ℤ}
 use Rattle.paper.specs.declared.Refusal.{Refusal}
 use Rattle.paper.specs.Cell.{term, integer, termFits}
 use Rattle.paper.specs.Act.{Act, _>>_}

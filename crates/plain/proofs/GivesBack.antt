@@ -1,13 +1,7 @@
 -- Demand 3, carried to the calls: of every outcome that the contracts of preserve, copy and erase allow. Each statement can be read
 -- without its proof.
-use Prim.Native.Nat.{ℕ, zero, suc, _+_, _≤_}
-use mathlib.Core.Path.{_≡_, refl, sym, ap, subst, _∙_}
-use mathlib.Core.Bool.{Bool, true, false}
-use mathlib.Core.List.{List, [], _∷_, reverse}
-use native.Mathlib.Omega.{arith}
-use lib.ListN.{length, length-map}
-use lib.Dec.{leb}
-use borrow.Author.Tests.{leb-true}
+use Rattle.paper.proofs.Kit.{ℕ, zero, suc, _+_, _≤_, _≡_, refl, sym, ap, subst, _∙_, Bool, true, false, List, [], _∷_, reverse, arith, length, length-map}
+use Rattle.paper.proofs.Kit.{leb, leb-true}
 use Rattle.paper.specs.declared.RunAnswer.{RunAnswer}
 use Rattle.paper.specs.declared.RunAnswer.the-variants.{Finished, BadSize, BudgetSpent, NotSound, Refused as Stopped}
 use Rattle.paper.specs.Cell.{State, sizeFits}

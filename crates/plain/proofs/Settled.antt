@@ -1,10 +1,5 @@
 -- A plain action by what its code did: the answers 1 and 20, and an action that was done or undone.
-use Prim.Native.Nat.{ℕ, _≤_}
-use mathlib.Core.Path.{_≡_, refl, sym, ap, _∙_}
-use mathlib.Core.Bool.{Bool, true, false}
-use mathlib.Core.List.{List, []}
-use mathlib.Core.Option.{Option, none, some}
-use lib.ListN.{length}
+use Rattle.paper.proofs.Kit.{ℕ, _≤_, _≡_, refl, sym, ap, _∙_, Bool, true, false, List, [], Option, none, some, length}
 use Rattle.paper.specs.declared.Refusal.{Refusal}
 use Rattle.paper.specs.declared.RunAnswer.{RunAnswer}
 use Rattle.paper.specs.declared.RunAnswer.the-variants.{Finished, BadSize, NotSound, Refused as Stopped}

@@ -1,13 +1,6 @@
 -- A walk by what its code did: the answers 1 and 20, the cells met, or a refusal.
-use Prim.Native.Nat.{ℕ, suc, _+_, _-_, _<_, _≤_}
-use mathlib.Core.Path.{_≡_, refl, sym, ap, _∙_}
-use mathlib.Core.List.{List, [], _∷_, _++_, reverse-reverse}
-use mathlib.Core.Bool.{Bool, true, false}
-use mathlib.Core.Option.{Option, some}
-use native.Mathlib.Numerals.{add-one}
-use native.Mathlib.Omega.{arith}
-use lib.ListN.{length, getD, take, set, replicate}
-use lib.Seq.{length-take-le, take-suc, append-snoc, set-at}
+use Rattle.paper.proofs.Kit.{ℕ, suc, _+_, _-_, _<_, _≤_, _≡_, refl, sym, ap, _∙_, List, [], _∷_, _++_, reverse-reverse, Bool, true, false, Option, some}
+use Rattle.paper.proofs.Kit.{add-one, arith, length, getD, take, set, replicate, length-take-le, take-suc, append-snoc, set-at}
 use Rattle.paper.specs.Limits.{largestN}
 use Rattle.paper.specs.declared.RunAnswer.{RunAnswer}
 use Rattle.paper.specs.declared.RunAnswer.the-variants.{Finished, Refused as Stopped}

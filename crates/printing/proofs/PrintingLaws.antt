@@ -1,13 +1,7 @@
 -- What code that prints owes, a line of its block at a time, and the line as it stands in the output.
-use Prim.Native.Nat.{ℕ, suc, _+_, _-_, _<_, _≤_}
-use mathlib.Core.Path.{_≡_, ap, _∙_, sym}
-use mathlib.Core.List.{List, [], _∷_, _++_, append-assoc}
-use mathlib.Core.Option.{Option, none, some}
-use native.Mathlib.Omega.{arith}
-use borrow.Author.Tests.{ltb-false}
-use lib.Dec.{ltb}
-use lib.ListN.{length, take, drop, length-drop}
-use lib.Seq.{paste, paste-zero, length-paste, take-paste, drop-paste, take-take, take-at, drop-at, length-take-le}
+use Rattle.paper.proofs.Kit.{ℕ, suc, _+_, _-_, _<_, _≤_, _≡_, ap, _∙_, sym, List, [], _∷_, _++_, append-assoc, Option, none, some, arith, ltb-false, ltb}
+use Rattle.paper.proofs.Kit.{length, take, drop, length-drop, paste, paste-zero, length-paste, take-paste, drop-paste, take-take, take-at, drop-at}
+use Rattle.paper.proofs.Kit.{length-take-le}
 use Rattle.paper.specs.declared.Refusal.{Refusal}
 use Rattle.paper.specs.declared.Refusal.the-variants.{NoRoom}
 use Rattle.paper.specs.declared.Symbol.{Symbol}

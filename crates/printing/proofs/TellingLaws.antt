@@ -1,12 +1,6 @@
 -- The laws of the world of what prints: what does not print, the printing itself, and a refusal, which has no line.
-use Prim.Native.Nat.{ℕ, suc, _-_}
-use mathlib.Core.Path.{_≡_, refl, ap, _∙_, sym, subst}
-use mathlib.Core.Bool.{Bool, true, false}
-use mathlib.Core.List.{List, [], _∷_, _++_}
-use mathlib.Core.Option.{Option, none, some}
-use native.Mathlib.Omega.{arith}
-use lib.Dec.{eqb, ltb}
-use lib.ListN.{length, length-append}
+use Rattle.paper.proofs.Kit.{ℕ, suc, _-_, _≡_, refl, ap, _∙_, sym, subst, Bool, true, false, List, [], _∷_, _++_, Option, none, some, arith, eqb, ltb, length}
+use Rattle.paper.proofs.Kit.{length-append}
 use Rattle.paper.specs.declared.Refusal.{Refusal}
 use Rattle.paper.specs.declared.Refusal.the-variants.{NoRoom}
 use Rattle.paper.specs.declared.Symbol.{Symbol}

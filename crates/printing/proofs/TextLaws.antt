@@ -1,16 +1,7 @@
 -- Writing the text of a line: one byte after another, digits, the names of cells; and a line that is copied out.
-use Prim.Native.Nat.{ℕ, zero, suc, _+_, _-_, _/_, _%_, _^_, _<_, _≤_}
-use mathlib.Core.Path.{_≡_, refl, ap, _∙_, sym, subst}
-use mathlib.Core.Logic.{_≢_}
-use mathlib.Core.Bool.{Bool, true, false}
-use mathlib.Core.Option.{Option, none, some}
-use mathlib.Core.List.{List, [], _∷_, _++_, append-assoc, append-nil}
-use native.Mathlib.Omega.{arith}
-use native.Mathlib.Numerals.{add-one}
-use borrow.Author.Tests.{lt-ltb, le-ltb, eq-eqb, ne-eqb}
-use lib.Dec.{ltb}
-use lib.ListN.{length, getD, take, drop, set, length-append, length-set}
-use lib.Seq.{take-suc-set, paste, paste-suc}
+use Rattle.paper.proofs.Kit.{ℕ, zero, suc, _+_, _-_, _/_, _%_, _^_, _<_, _≤_, _≡_, refl, ap, _∙_, sym, subst, _≢_, Bool, true, false, Option, none, some}
+use Rattle.paper.proofs.Kit.{List, [], _∷_, _++_, append-assoc, append-nil, arith, add-one, lt-ltb, le-ltb, eq-eqb, ne-eqb, ltb, length, getD, take, drop}
+use Rattle.paper.proofs.Kit.{set, length-append, length-set, take-suc-set, paste, paste-suc}
 use Rattle.paper.specs.declared.Symbol.{Symbol}
 use Rattle.paper.specs.Region.{Region, lettersOf}
 use Rattle.paper.specs.Print.{digitsBy, digits, integerText, cellText, symbolText}

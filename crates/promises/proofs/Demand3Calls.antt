@@ -1,14 +1,7 @@
 -- Demand 3 of the calls plain::preserve, plain::copy, plain::erase and plain::walk, in their own words: numbers, answers, and the cells that
 -- a walk met. Each statement can be read without its proof.
-use Prim.Native.Nat.{ℕ, _+_, _≤_}
-use mathlib.Core.Path.{_≡_, refl, sym, ap, subst, _∙_}
-use mathlib.Core.Bool.{Bool, true, false}
-use mathlib.Core.List.{List, [], _∷_, reverse}
-use mathlib.Core.Logic.{_≢_}
-use mathlib.Core.Option.{some}
-use native.Mathlib.Omega.{arith}
-use lib.ListN.{length, take, length-reverse}
-use lib.Seq.{take-append-seam}
+use Rattle.paper.proofs.Kit.{ℕ, _+_, _≤_, _≡_, refl, sym, ap, subst, _∙_, Bool, true, false, List, [], _∷_, reverse, _≢_, some, arith, length, take}
+use Rattle.paper.proofs.Kit.{length-reverse, take-append-seam}
 use Rattle.paper.specs.declared.Refusal.{Refusal}
 use Rattle.paper.specs.declared.RunAnswer.{RunAnswer}
 use Rattle.paper.specs.declared.RunAnswer.the-variants.{Finished, BadSize, NotSound}

@@ -1,14 +1,7 @@
 -- Demands 1 and 2 of the call machine::run, cycle by cycle: "After every cycle the free cells are exactly those on the H2 list, each once."
 -- A run with a budget of k is what shows the store after k cycles. Each statement can be read without its proof.
-use Prim.Native.Nat.{ℕ, zero, suc, _+_, _-_, _≤_}
-use mathlib.Core.Path.{_≡_, refl, sym, ap, subst, _∙_}
-use mathlib.Core.Bool.{Bool, true, false}
-use mathlib.Core.List.{List, []}
-use mathlib.Core.Logic.{inl, inr}
-use mathlib.Core.Option.{none, some}
-use native.Mathlib.Omega.{arith}
-use lib.ListN.{length, take, drop}
-use lib.Seq.{take-append-seam}
+use Rattle.paper.proofs.Kit.{ℕ, zero, suc, _+_, _-_, _≤_, _≡_, refl, sym, ap, subst, _∙_, Bool, true, false, List, [], inl, inr, none, some, arith, length}
+use Rattle.paper.proofs.Kit.{take, drop, take-append-seam}
 use Rattle.paper.specs.declared.Refusal.{Refusal}
 use Rattle.paper.specs.declared.RunAnswer.{RunAnswer}
 use Rattle.paper.specs.declared.RunAnswer.the-variants.{Finished, BudgetSpent, Refused}

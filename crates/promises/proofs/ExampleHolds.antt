@@ -1,8 +1,5 @@
 -- The promises are not had emptily: stores for which their hypotheses hold, by computation.
-use Prim.Native.Nat.{ℕ}
-use mathlib.Core.Path.{_≡_, refl}
-use mathlib.Core.List.{[]}
-use native.Mathlib.Omega.{arith}
+use Rattle.paper.proofs.Kit.{ℕ, _≡_, refl, [], arith}
 use Rattle.paper.specs.declared.RunAnswer.the-variants.{Finished, BudgetSpent}
 use Rattle.paper.specs.Cell.{regional, J}
 use Rattle.paper.specs.Act.{done}

@@ -1,12 +1,6 @@
 -- The free cells of the numbers are those of the store.
-use Prim.Native.Nat.{ℕ, suc, _^_, _<_, _≤_}
-use mathlib.Core.Path.{_≡_, refl, sym, ap, _∙_}
-use mathlib.Core.Bool.{true, false}
-use mathlib.Core.List.{List, [], _∷_}
-use native.Mathlib.Decide.{decLt}
-use native.Mathlib.Omega.{arith}
-use lib.ListN.{length, getD, List·getD-eq-default}
-use borrow.Author.Tests.{lt-ltb, le-ltb, lt-leb, le-leb}
+use Rattle.paper.proofs.Kit.{ℕ, suc, _^_, _<_, _≤_, _≡_, refl, sym, ap, _∙_, true, false, List, [], _∷_, decLt, arith, length, getD, List·getD-eq-default}
+use Rattle.paper.proofs.Kit.{lt-ltb, le-ltb, lt-leb, le-leb}
 use Rattle.paper.specs.Cell.{isFree}
 use Rattle.paper.specs.Sound.{freeCount}
 use Rattle.cells.specs.Layout.{unpackOf}

@@ -1,14 +1,6 @@
 -- An erasure, of the numbers alone; and that it is one of the store.
-use Prim.Native.Nat.{ℕ, _+_, _<_}
-use mathlib.Core.Path.{_≡_, refl, sym, ap, subst, _∙_}
-use mathlib.Core.Bool.{Bool, true, false, _||_}
-use mathlib.Core.List.{List, [], _∷_}
-use mathlib.Core.Logic.{_≢_}
-use native.Mathlib.Omega.{arith}
-use native.Mathlib.Decide.{ℕ-discrete, decLt}
-use borrow.Author.Tests.{eqb-true}
-use lib.Dec.{eqb}
-use lib.ListN.{length, getD, List·getD-eq-default}
+use Rattle.paper.proofs.Kit.{ℕ, _+_, _<_, _≡_, refl, sym, ap, subst, _∙_, Bool, true, false, _||_, List, [], _∷_, _≢_, arith, ℕ-discrete, decLt, eqb-true}
+use Rattle.paper.proofs.Kit.{eqb, length, getD, List·getD-eq-default}
 use Rattle.paper.specs.Cell.{isFree, H, sizeFits}
 use Rattle.paper.specs.Walk.{member}
 use Rattle.paper.proofs.SoundStore.{never}

@@ -1,13 +1,7 @@
 -- Demand 3 inside a cycle: whenever a cycle is accepted whose order executes J72, J71 or J74, it has done to the store what that process
 -- does, and besides that H1 has got the LINK. Each statement can be read without its proof.
-use Prim.Native.Nat.{ℕ, suc, _-_, _<_, _≤_}
-use mathlib.Core.Path.{_≡_, refl, sym, ap, subst, _∙_}
-use mathlib.Core.Bool.{Bool, true, false}
-use mathlib.Core.List.{List, [], _∷_, reverse}
-use mathlib.Core.Logic.{_≢_}
-use native.Mathlib.Omega.{arith}
-use borrow.Author.Tests.{ne-eqb}
-use lib.ListN.{length, set}
+use Rattle.paper.proofs.Kit.{ℕ, suc, _-_, _<_, _≤_, _≡_, refl, sym, ap, subst, _∙_, Bool, true, false, List, [], _∷_, reverse, _≢_, arith, ne-eqb, length}
+use Rattle.paper.proofs.Kit.{set}
 use Rattle.paper.specs.declared.Refusal.{Refusal}
 use Rattle.paper.specs.declared.Symbol.{Symbol}
 use Rattle.paper.specs.Limits.{firstDeck}

@@ -1,11 +1,7 @@
 -- "For each input, a public call has one possible outcome: number, cycles, cells and every output byte. Show that any two outcomes
 -- allowed by a contract coincide." A contract is an equation with a definition, and what equals the same is the same (`one-outcome` of
 -- paper/proofs/Demand1): cited for each public call. Each statement can be read without its proof.
-use Prim.Native.Nat.{ℕ}
-use mathlib.Core.Path.{_≡_, sym, ap, _∙_}
-use mathlib.Core.Bool.{Bool}
-use mathlib.Core.List.{List}
-use mathlib.Core.Option.{none, some}
+use Rattle.paper.proofs.Kit.{ℕ, _≡_, sym, ap, _∙_, Bool, List, none, some}
 use Rattle.paper.specs.declared.RunAnswer.{RunAnswer}
 use Rattle.paper.specs.Cell.{sizeFits}
 use Rattle.paper.specs.Act.{Act}

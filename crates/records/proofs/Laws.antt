@@ -1,16 +1,7 @@
 -- Laws of symbols and records: a symbol by its class, an integer's value, a record by its kind.
-use Prim.Native.Nat.{ℕ, zero, suc, _+_, _-_, _*_, _<_, _≤_}
-use mathlib.Core.Bool.{Bool, true, false, cond, _&&_, _||_, and-false}
-use mathlib.Core.List.{List, [], _∷_}
-use mathlib.Core.Logic.{_⊎_, ⊎-elim}
-use mathlib.Core.Option.{Option, none, some}
-use mathlib.Core.Path.{_≡_, refl, ap, _∙_, sym, subst}
-use native.Mathlib.Omega.{arith}
-use native.Mathlib.Decide.{ℕ-discrete}
-use borrow.Author.Tests.{lt-ltb, le-ltb, le-leb, lt-leb, ne-eqb, ltb-false, eqb-false}
-use lib.Dec.{eqb, ltb, leb}
-use lib.ListN.{getD, length}
-use lib.IntN.{ℤ, pos, negsuc}
+use Rattle.paper.proofs.Kit.{ℕ, zero, suc, _+_, _-_, _*_, _<_, _≤_, Bool, true, false, cond, _&&_, _||_, and-false, List, [], _∷_, _⊎_, ⊎-elim, Option, none}
+use Rattle.paper.proofs.Kit.{some, _≡_, refl, ap, _∙_, sym, subst, arith, ℕ-discrete, lt-ltb, le-ltb, le-leb, lt-leb, ne-eqb, ltb-false, eqb-false, eqb, ltb}
+use Rattle.paper.proofs.Kit.{leb, getD, length, ℤ, pos, negsuc}
 use Rattle.paper.specs.Step.{choose}
 use Rattle.paper.specs.declared.Field.{Field}
 use Rattle.paper.specs.declared.Field.the-variants.{Regional, Local, Zero, Blank}

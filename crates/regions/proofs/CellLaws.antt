@@ -1,12 +1,6 @@
 -- The cell of a regional symbol: along the regions of a table from number i on, and by letter.
-use Prim.Native.Nat.{ℕ, _+_, _<_, _≤_}
-use mathlib.Core.Bool.{Bool, true, false, cond}
-use mathlib.Core.List.{List, [], _∷_}
-use mathlib.Core.Path.{_≡_, sym, _∙_}
-use native.Mathlib.Omega.{arith}
-use borrow.Author.Tests.{lt-ltb, le-ltb, eq-eqb, ne-eqb}
-use lib.Dec.{eqb, ltb}
-use lib.ListN.{length, getD}
+use Rattle.paper.proofs.Kit.{ℕ, _+_, _<_, _≤_, Bool, true, false, cond, List, [], _∷_, _≡_, sym, _∙_, arith, lt-ltb, le-ltb, eq-eqb, ne-eqb, eqb, ltb, length}
+use Rattle.paper.proofs.Kit.{getD}
 use Rattle.paper.specs.Limits.{largestN, firstDeck}
 use Rattle.paper.specs.Region.{Region, endOfRegions, H, W, J, cellFrom, cellOf}
 use Rattle.regions.specs.declared.Regions.{Regions}

@@ -1,15 +1,7 @@
 -- The table as a run lends it: the name of a cell, row by row, and that it tells the regions.
-use Prim.Native.Nat.{ℕ, zero, suc, _+_, _-_, _*_, _/_, _%_, _<_, _≤_}
-use mathlib.Core.Bool.{Bool, true, false}
-use mathlib.Core.List.{List, [], _∷_}
-use mathlib.Core.Option.{Option, none, some}
-use mathlib.Core.Path.{_≡_, refl, ap, sym, _∙_}
-use native.Mathlib.Numerals.{add-one}
-use native.Mathlib.Omega.{arith}
-use borrow.Author.Tests.{lt-ltb, le-ltb, eq-eqb, ne-eqb, eqb-true, eqb-false, ltb-true, ltb-false}
-use lib.Dec.{eqb, ltb}
-use lib.ListN.{length, getD, drop, set, replicate, length-set}
-use lib.Seq.{getD-set-same, getD-set-other}
+use Rattle.paper.proofs.Kit.{ℕ, zero, suc, _+_, _-_, _*_, _/_, _%_, _<_, _≤_, Bool, true, false, List, [], _∷_, Option, none, some, _≡_, refl, ap, sym, _∙_}
+use Rattle.paper.proofs.Kit.{add-one, arith, lt-ltb, le-ltb, eq-eqb, ne-eqb, eqb-true, eqb-false, ltb-true, ltb-false, eqb, ltb, length, getD, drop, set}
+use Rattle.paper.proofs.Kit.{replicate, length-set, getD-set-same, getD-set-other}
 use Rattle.paper.specs.Limits.{firstDeck}
 use Rattle.paper.specs.Region.{Region, regionOf, H, W, J, layout, endOfRegions, lettersFrom, lettersOf}
 use Rattle.regions.specs.declared.Regions.{Regions}

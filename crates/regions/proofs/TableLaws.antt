@@ -1,13 +1,6 @@
 -- The table's list: how long it is, its rest from a number on, and one region more.
-use Prim.Native.Nat.{ℕ, zero, suc, _+_, _<_, _≤_, min}
-use mathlib.Core.List.{List, [], _∷_, _++_}
-use mathlib.Core.Path.{_≡_, refl, ap, sym, _∙_}
-use native.Mathlib.Nat.{min-eq-left, min-eq-right, zero-add}
-use native.Mathlib.Numerals.{add-one}
-use native.Mathlib.Omega.{arith}
-use borrow.Author.Tests.{lt-ltb}
-use lib.ListN.{length, getD, drop, drop-of-length-le}
-use lib.Seq.{drop-cons, getD-set-same, getD-set-other}
+use Rattle.paper.proofs.Kit.{ℕ, zero, suc, _+_, _<_, _≤_, min, List, [], _∷_, _++_, _≡_, refl, ap, sym, _∙_, min-eq-left, min-eq-right, zero-add, add-one}
+use Rattle.paper.proofs.Kit.{arith, lt-ltb, length, getD, drop, drop-of-length-le, drop-cons, getD-set-same, getD-set-other}
 use Rattle.paper.specs.Cell.{Region}
 use Rattle.regions.specs.declared.Regions.{Regions}
 use Rattle.regions.specs.Table.{regionAt, rowsFrom, regionsOf, noRegions, andRegion, withRegion}

@@ -1,10 +1,5 @@
 -- What a call is answered: 1 and 20, or neither.
-use Prim.Native.Nat.{ℕ}
-use mathlib.Core.Path.{_≡_}
-use mathlib.Core.Bool.{true, false}
-use mathlib.Core.List.{List}
-use mathlib.Core.Option.{none, some}
-use lib.ListN.{length}
+use Rattle.paper.proofs.Kit.{ℕ, _≡_, true, false, List, none, some, length}
 use Rattle.paper.specs.declared.RunAnswer.the-variants.{BadSize, NotSound}
 use Rattle.paper.specs.Cell.{sizeFits}
 use Rattle.regions.specs.declared.Regions.{Regions}

@@ -1,10 +1,5 @@
 -- The numbers of a sound store: each cell fits its fields, so its number unpacks to it and is in form.
-use Prim.Native.Nat.{ℕ, suc, _<_}
-use mathlib.Core.Path.{_≡_, refl, ap}
-use mathlib.Core.List.{List, [], _∷_}
-use native.Mathlib.Omega.{arith}
-use lib.ListN.{length, getD}
-use lib.IntN.{pos, negsuc}
+use Rattle.paper.proofs.Kit.{ℕ, suc, _<_, _≡_, refl, ap, List, [], _∷_, arith, length, getD, pos, negsuc}
 use Rattle.paper.specs.Cell.{Cell, free, word, term, integer, process, State}
 use Rattle.paper.proofs.SoundStore.{Frame, at, CellOk, Sound}
 use Rattle.cells.specs.Pack.{CellFits, AllFormed, packOf, packed}

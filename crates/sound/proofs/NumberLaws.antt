@@ -1,11 +1,6 @@
 -- The number of a cell: when it is in form, and what soundness asks of it, by its kind.
-use Prim.Native.Nat.{ℕ, _+_, _*_, _%_, _^_, _<_, _≤_}
-use mathlib.Core.Bool.{Bool, true, false, cond, _&&_, _||_, and-assoc, and-true, true≢false}
-use mathlib.Core.Path.{_≡_, refl, ap, sym, _∙_}
-use native.Mathlib.Omega.{arith}
-use borrow.Author.Tests.{lt-ltb, eq-eqb, ne-eqb, ltb-true, ltb-false, eqb-true, eqb-false}
-use lib.Dec.{ltb, leb, eqb}
-use lib.IntN.{ℤ, pos, negsuc}
+use Rattle.paper.proofs.Kit.{ℕ, _+_, _*_, _%_, _^_, _<_, _≤_, Bool, true, false, cond, _&&_, _||_, and-assoc, and-true, true≢false, _≡_, refl, ap, sym, _∙_}
+use Rattle.paper.proofs.Kit.{arith, lt-ltb, eq-eqb, ne-eqb, ltb-true, ltb-false, eqb-true, eqb-false, ltb, leb, eqb, ℤ, pos, negsuc}
 use Rattle.paper.specs.Cell.{word, integer, termFits}
 use Rattle.paper.specs.Sound.{wordSound, cellSound, isZeros}
 use Rattle.paper.proofs.SoundStore.{and-true as both}

@@ -1,12 +1,6 @@
 -- The whole test from its parts: the table and cell 0, the one pass over the cells, and the free list.
-use Prim.Native.Nat.{ℕ, _≤_}
-use mathlib.Core.Bool.{Bool, true, false, cond, _&&_, and-assoc, and-false}
-use mathlib.Core.List.{List, [], _∷_}
-use mathlib.Core.Path.{_≡_, refl, ap, sym, _∙_}
-use native.Mathlib.Omega.{arith}
-use borrow.Author.Tests.{eq-eqb, eqb-true, leb-true, le-leb}
-use lib.Dec.{leb, eqb}
-use lib.ListN.{length}
+use Rattle.paper.proofs.Kit.{ℕ, _≤_, Bool, true, false, cond, _&&_, and-assoc, and-false, List, [], _∷_, _≡_, refl, ap, sym, _∙_, arith, eq-eqb, eqb-true}
+use Rattle.paper.proofs.Kit.{leb-true, le-leb, leb, eqb, length}
 use Rattle.paper.specs.Limits.{smallestN, largestN, firstDeck}
 use Rattle.paper.specs.Cell.{endOfRegions, sizeFits}
 use Rattle.paper.specs.Sound.{cellsSound, freeCount, freeList, freeStart, isZeros, sound}

@@ -1,14 +1,7 @@
 -- The two loops over the cells, turn by turn.
-use Prim.Native.Nat.{ℕ, zero, suc, _+_, _-_, _<_, _≤_}
-use mathlib.Core.Bool.{Bool, true, false, cond, _&&_, _||_, not, and-false}
-use mathlib.Core.List.{List}
-use mathlib.Core.Path.{_≡_, refl, sym}
-use native.Mathlib.Numerals.{add-one}
-use native.Mathlib.Omega.{arith}
+use Rattle.paper.proofs.Kit.{ℕ, zero, suc, _+_, _-_, _<_, _≤_, Bool, true, false, cond, _&&_, _||_, not, and-false, List, _≡_, refl, sym, add-one, arith, eqb}
+use Rattle.paper.proofs.Kit.{length, getD, drop, drop-of-length-le, List·getD-map, drop-cons}
 use mir.Val.{boolByte}
-use lib.Dec.{eqb}
-use lib.ListN.{length, getD, drop, drop-of-length-le, List·getD-map}
-use lib.Seq.{drop-cons}
 use Rattle.paper.specs.Cell.{Cell, free, word, term, process, zeros, isFree, freeLink}
 use Rattle.paper.specs.Sound.{cellSound, cellsSound, freeCount, freeList}
 use Rattle.cells.specs.Layout.{unpackOf}

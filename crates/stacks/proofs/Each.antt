@@ -1,12 +1,5 @@
 -- A loop over W0 to Wn against the recursion `eachW`: one law for J2n, J3n and J4n.
-use Prim.Native.Nat.{ℕ, zero, suc, _+_, _-_, _*_, _<_, _≤_}
-use mathlib.Core.Path.{_≡_, refl, ap, _∙_, sym}
-use mathlib.Core.List.{List}
-use mathlib.Core.Option.{Option}
-use native.Mathlib.Nat.{mul-suc}
-use native.Mathlib.Numerals.{add-one}
-use native.Mathlib.Omega.{arith}
-use lib.ListN.{length}
+use Rattle.paper.proofs.Kit.{ℕ, zero, suc, _+_, _-_, _*_, _<_, _≤_, _≡_, refl, ap, _∙_, sym, List, Option, mul-suc, add-one, arith, length}
 use Rattle.paper.specs.declared.Refusal.{Refusal}
 use Rattle.paper.specs.Cell.{W}
 use Rattle.paper.specs.Act.{Act, _>>_, ret}

@@ -1,5 +1,5 @@
 -- Pops followed by a push.
-use mathlib.Core.Path.{_≡_, ap, _∙_, sym}
+use Rattle.paper.proofs.Kit.{_≡_, ap, _∙_, sym}
 use Rattle.paper.specs.declared.Symbol.{Symbol}
 use Rattle.paper.specs.Act.{Act, _>>_, pop, pops, push, gives}
 use Rattle.steps.proofs.Steps.{then-then}

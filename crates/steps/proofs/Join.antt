@@ -1,9 +1,5 @@
 -- Laws of `To`: a line of a block, then the rest of it.
-use mathlib.Core.Path.{_≡_, refl, ap, _∙_}
-use mathlib.Core.Option.{Option, none, some}
-use Prim.Native.Nat.{ℕ}
-use mathlib.Core.Bool.{true}
-use native.Mathlib.Omega.{arith}
+use Rattle.paper.proofs.Kit.{_≡_, refl, ap, _∙_, Option, none, some, ℕ, true, arith}
 use Rattle.paper.specs.Step.{done, refused, Step, _>>=_, _>>_, ret, refuse, refuseIf}
 use Rattle.steps.specs.Follows.{left, To}
 use Rattle.steps.proofs.Steps.{bind-same, then-same}

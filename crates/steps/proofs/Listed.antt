@@ -1,13 +1,6 @@
 -- The list of processes, by the ranges of numbers that a decision names: which entry has them all, or that none has any.
-use Prim.Native.Nat.{ℕ, _-_, _<_, _≤_}
-use mathlib.Core.Path.{_≡_, refl, _∙_}
-use mathlib.Core.Logic.{_≢_}
-use mathlib.Core.Bool.{Bool, true, false, cond, _&&_, _||_}
-use mathlib.Core.List.{List, [], _∷_}
-use mathlib.Core.Option.{Option, none, some}
-use native.Mathlib.Omega.{arith}
-use borrow.Author.Tests.{leb-true, ltb-true, eqb-true, le-leb, lt-leb}
-use lib.Dec.{leb, ltb, eqb}
+use Rattle.paper.proofs.Kit.{ℕ, _-_, _<_, _≤_, _≡_, refl, _∙_, _≢_, Bool, true, false, cond, _&&_, _||_, List, [], _∷_, Option, none, some, arith, leb-true}
+use Rattle.paper.proofs.Kit.{ltb-true, eqb-true, le-leb, lt-leb, leb, ltb, eqb}
 use Rattle.paper.specs.declared.Refusal.the-variants.{NotListed}
 use Rattle.paper.specs.Cell.{J}
 use Rattle.paper.specs.Act.{refuse, ifThen}

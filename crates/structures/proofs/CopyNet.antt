@@ -1,16 +1,8 @@
 -- Taking a new cell for each old one and then copying is `copyInto`, where the free list goes over new cells, each once: the empty words
 -- that stand in them in between are written over, and no old cell is one of them.
-use Prim.Native.Nat.{ℕ, zero, suc, _<_}
-use mathlib.Core.Path.{_≡_, refl, sym, ap, _∙_, subst}
-use mathlib.Core.Bool.{Bool, true, false, _||_}
-use mathlib.Core.List.{List, [], _∷_, map}
-use mathlib.Core.Logic.{_≢_}
-use mathlib.Core.Option.{Option}
-use native.Mathlib.Omega.{arith}
-use borrow.Author.Tests.{eqb-true, eqb-false, ltb-true, ltb-false, ne-eqb, eq-eqb}
-use lib.Dec.{eqb, ltb}
-use lib.ListN.{length, getD, set, length-set, List·getD-eq-default}
-use lib.Seq.{getD-set-same, getD-set-other, set-set, set-comm, set-getD, set-out, ext-getD}
+use Rattle.paper.proofs.Kit.{ℕ, zero, suc, _<_, _≡_, refl, sym, ap, _∙_, subst, Bool, true, false, _||_, List, [], _∷_, map, _≢_, Option, arith, eqb-true}
+use Rattle.paper.proofs.Kit.{eqb-false, ltb-true, ltb-false, ne-eqb, eq-eqb, eqb, ltb, length, getD, set, length-set, List·getD-eq-default, getD-set-same}
+use Rattle.paper.proofs.Kit.{getD-set-other, set-set, set-comm, set-getD, set-out, ext-getD}
 use Rattle.paper.specs.declared.Refusal.{Refusal}
 use Rattle.paper.specs.Cell.{State, Word, Cell, free, word, term, process, isFree, wordIn, freeLink, emptyWord, withLink, withCells, cellAt}
 use Rattle.paper.specs.Act.{Act, Res, done, _>>=_, _>>_, ret, refuseIf, own, peek, put, takeAs}

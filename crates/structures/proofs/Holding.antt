@@ -1,14 +1,6 @@
 -- What the order and the marks hold: with no cell met, with one more, and where a part of a walk has ended.
-use Prim.Native.Nat.{ℕ, zero, suc, _+_, _<_, _≤_}
-use mathlib.Core.Path.{_≡_, sym, ap, _∙_, subst}
-use mathlib.Core.Bool.{false}
-use mathlib.Core.List.{List, [], _∷_}
-use mathlib.Core.Logic.{⊎-elim}
-use native.Mathlib.Omega.{arith}
-use native.Mathlib.Numerals.{add-one}
-use native.Mathlib.Nat.{le-of-suc-le-suc, eq-or-lt-of-le}
-use lib.ListN.{length, set, getD, length-set, length-replicate}
-use lib.Seq.{getD-set-same, getD-set-other}
+use Rattle.paper.proofs.Kit.{ℕ, zero, suc, _+_, _<_, _≤_, _≡_, sym, ap, _∙_, subst, false, List, [], _∷_, ⊎-elim, arith, add-one, le-of-suc-le-suc}
+use Rattle.paper.proofs.Kit.{eq-or-lt-of-le, length, set, getD, length-set, length-replicate, getD-set-same, getD-set-other}
 use Rattle.paper.specs.Limits.{largestN}
 use Rattle.paper.specs.Cell.{isFree}
 use Rattle.paper.specs.Act.{Act}

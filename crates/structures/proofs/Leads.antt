@@ -1,10 +1,5 @@
 -- A loop with fuel: whatever the rest of it comes to, the whole comes to. And what is known where a reading was not refused.
-use Prim.Native.Nat.{ℕ, zero, suc, _<_, _≤_}
-use mathlib.Core.Path.{_≡_, refl, ap, subst}
-use mathlib.Core.List.{List, []}
-use mathlib.Core.Option.{Option, none, some}
-use native.Mathlib.Omega.{arith}
-use lib.ListN.{length}
+use Rattle.paper.proofs.Kit.{ℕ, zero, suc, _<_, _≤_, _≡_, refl, ap, subst, List, [], Option, none, some, arith, length}
 use Rattle.paper.specs.declared.Refusal.{Refusal}
 use Rattle.paper.specs.Cell.{State, Word, wordIn}
 use Rattle.paper.specs.Act.{Act, Res, done, _>>_, ret, refuse, own, sized}

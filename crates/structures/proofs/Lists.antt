@@ -1,14 +1,7 @@
 -- Laws of the order and of the table old to new.
-use Prim.Native.Nat.{ℕ, zero, suc, _+_, _<_, _≤_}
-use mathlib.Core.Path.{_≡_, refl, sym, ap, _∙_, subst}
-use mathlib.Core.Bool.{Bool, true, false, cond, _||_}
-use mathlib.Core.List.{List, [], _∷_, _++_, map, reverse, reverseAux}
-use native.Mathlib.Omega.{arith}
-use native.Mathlib.Numerals.{add-one}
-use lib.ListN.{length, getD, set, take, drop, drop-of-length-le}
-use lib.Seq.{take-suc, drop-cons, getD-take, length-take-le, getD-set-same, getD-set-other}
-use lib.Dec.{eqb}
-use borrow.Author.Tests.{eqb-true, eqb-false, ne-eqb}
+use Rattle.paper.proofs.Kit.{ℕ, zero, suc, _+_, _<_, _≤_, _≡_, refl, sym, ap, _∙_, subst, Bool, true, false, cond, _||_, List, [], _∷_, _++_, map, reverse}
+use Rattle.paper.proofs.Kit.{reverseAux, arith, add-one, length, getD, set, take, drop, drop-of-length-le, take-suc, drop-cons, getD-take, length-take-le}
+use Rattle.paper.proofs.Kit.{getD-set-same, getD-set-other, eqb, eqb-true, eqb-false, ne-eqb}
 use Rattle.paper.specs.Walk.{member, renamed}
 use Rattle.paper.proofs.SoundStore.{or-false}
 use Rattle.structures.specs.Marks.{back, Once, Only}

@@ -1,11 +1,6 @@
 -- A loop against a block that recurses over a list: whatever the rest of the block comes to, the whole comes to.
-use Prim.Native.Nat.{ℕ, _+_, _-_, _<_, _≤_}
-use mathlib.Core.Path.{_≡_, refl, sym, ap, _∙_, subst}
-use mathlib.Core.Bool.{Bool}
-use mathlib.Core.List.{List, [], _∷_, _++_, append-assoc, append-nil, map}
-use mathlib.Core.Option.{Option}
-use native.Mathlib.Omega.{arith}
-use lib.ListN.{length, getD, take, drop}
+use Rattle.paper.proofs.Kit.{ℕ, _+_, _-_, _<_, _≤_, _≡_, refl, sym, ap, _∙_, subst, Bool, List, [], _∷_, _++_, append-assoc, append-nil, map, Option, arith}
+use Rattle.paper.proofs.Kit.{length, getD, take, drop}
 use Rattle.paper.specs.declared.Refusal.{Refusal}
 use Rattle.paper.specs.declared.Refusal.the-variants.{NotToBeFreed}
 use Rattle.paper.specs.Cell.{State, Cell, free, word, emptyWord}

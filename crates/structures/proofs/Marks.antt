@@ -1,14 +1,7 @@
 -- Laws of the order and the marks.
-use Prim.Native.Nat.{ℕ, zero, suc, _+_, _-_, _<_, _≤_}
-use mathlib.Core.Path.{_≡_, refl, sym, ap, _∙_, subst}
-use mathlib.Core.Bool.{Bool, true, false, not, _||_}
-use mathlib.Core.List.{List, [], _∷_, reverse, reverse-append}
-use native.Mathlib.Omega.{arith}
-use native.Mathlib.Numerals.{add-one}
-use lib.ListN.{length, getD, take, set, replicate, length-replicate, getD-replicate, List·getD-eq-default}
-use lib.Seq.{take-suc, take-suc-set, getD-set-same, getD-set-other, ext-getD}
-use lib.Dec.{eqb, ltb}
-use borrow.Author.Tests.{eqb-true, eqb-false, ltb-true, ltb-false, not-false}
+use Rattle.paper.proofs.Kit.{ℕ, zero, suc, _+_, _-_, _<_, _≤_, _≡_, refl, sym, ap, _∙_, subst, Bool, true, false, not, _||_, List, [], _∷_, reverse}
+use Rattle.paper.proofs.Kit.{reverse-append, arith, add-one, length, getD, take, set, replicate, length-replicate, getD-replicate, List·getD-eq-default}
+use Rattle.paper.proofs.Kit.{take-suc, take-suc-set, getD-set-same, getD-set-other, ext-getD, eqb, ltb, eqb-true, eqb-false, ltb-true, ltb-false, not-false}
 use Rattle.paper.specs.Limits.{largestN}
 use Rattle.paper.specs.Walk.{member}
 use Rattle.structures.specs.Marks.{back, manyNumbers, blank, Marked, Only, unmet}

@@ -1,11 +1,5 @@
 -- What is known of a cell that was met and not refused.
-use Prim.Native.Nat.{ℕ, _<_, _≤_}
-use mathlib.Core.Path.{_≡_, refl, sym, ap, _∙_, subst}
-use mathlib.Core.Bool.{Bool, true, false}
-use mathlib.Core.List.{List}
-use lib.ListN.{length}
-use lib.Dec.{ltb}
-use borrow.Author.Tests.{ltb-true, ltb-false}
+use Rattle.paper.proofs.Kit.{ℕ, _<_, _≤_, _≡_, refl, sym, ap, _∙_, subst, Bool, true, false, List, length, ltb, ltb-true, ltb-false}
 use Rattle.paper.specs.Cell.{Cell, free, word, term, process, isFree, isWord, cellAt, State}
 use Rattle.paper.specs.Act.{touch, asWord, wordAt, named, notOwn, peek}
 use Rattle.paper.specs.Limits.{deepest}

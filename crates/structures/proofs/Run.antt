@@ -1,13 +1,7 @@
 -- Laws of a run of the free list: each of its cells is free and leads to one other, so a run whose last cell is none of those before has
 -- no cell twice.
-use Prim.Native.Nat.{ℕ, zero, suc, _+_, _-_, _<_}
-use mathlib.Core.Path.{_≡_, refl, sym, ap, _∙_, subst}
-use mathlib.Core.Bool.{Bool, true, false, _||_}
-use mathlib.Core.List.{List, [], _∷_, _++_}
-use native.Mathlib.Omega.{arith}
-use borrow.Author.Tests.{eqb-true, eq-eqb}
-use lib.Dec.{eqb}
-use lib.ListN.{length, getD, length-append}
+use Rattle.paper.proofs.Kit.{ℕ, zero, suc, _+_, _-_, _<_, _≡_, refl, sym, ap, _∙_, subst, Bool, true, false, _||_, List, [], _∷_, _++_, arith, eqb-true}
+use Rattle.paper.proofs.Kit.{eq-eqb, eqb, length, getD, length-append}
 use Rattle.paper.specs.Cell.{Cell, isFree, freeLink, cellAt}
 use Rattle.paper.specs.Walk.{member}
 use Rattle.paper.proofs.SoundStore.{never, or-false}

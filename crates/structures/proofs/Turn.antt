@@ -1,14 +1,6 @@
 -- What the blocks say of one turn: of a walk, of a list that is named, of a chain.
-use Prim.Native.Nat.{ℕ, suc, _+_, _<_}
-use mathlib.Core.Path.{_≡_, refl, sym, ap, _∙_, subst}
-use mathlib.Core.Bool.{Bool, true, false, cond, _||_, not}
-use mathlib.Core.List.{List, [], _∷_}
-use mathlib.Core.Option.{Option}
-use native.Mathlib.Omega.{arith}
-use native.Mathlib.Numerals.{add-one}
-use lib.ListN.{length}
-use lib.Dec.{ltb, eqb}
-use borrow.Author.Tests.{eq-eqb, ne-eqb, lt-ltb, le-ltb}
+use Rattle.paper.proofs.Kit.{ℕ, suc, _+_, _<_, _≡_, refl, sym, ap, _∙_, subst, Bool, true, false, cond, _||_, not, List, [], _∷_, Option, arith, add-one}
+use Rattle.paper.proofs.Kit.{length, ltb, eqb, eq-eqb, ne-eqb, lt-ltb, le-ltb}
 use Rattle.paper.specs.declared.Refusal.{Refusal}
 use Rattle.paper.specs.Limits.{firstDeck, deepest}
 use Rattle.paper.specs.Cell.{Word, Cell, free, word, term, process, isWord, isTerm, wordIn, linkIn, isHWJ, State}

@@ -1,12 +1,6 @@
 -- The blocks of an erasure and of a copy, from their loops.
-use Prim.Native.Nat.{ℕ, _+_, _-_, _*_, _<_, _≤_}
-use mathlib.Core.Path.{_≡_, sym, ap, _∙_, subst}
-use mathlib.Core.Bool.{true, false}
-use mathlib.Core.List.{List, [], _∷_, _++_, map, reverse-reverse}
-use mathlib.Core.Option.{Option}
-use native.Mathlib.Omega.{arith}
-use lib.ListN.{length, take, getD}
-use lib.Seq.{length-take-le, getD-take}
+use Rattle.paper.proofs.Kit.{ℕ, _+_, _-_, _*_, _<_, _≤_, _≡_, sym, ap, _∙_, subst, true, false, List, [], _∷_, _++_, map, reverse-reverse, Option, arith}
+use Rattle.paper.proofs.Kit.{length, take, getD, length-take-le, getD-take}
 use Rattle.paper.specs.declared.Refusal.{Refusal}
 use Rattle.paper.specs.Limits.{smallestN, largestN}
 use Rattle.paper.specs.Cell.{Word, word, wordIn, withLink, isFree, cellAt}

@@ -1,15 +1,7 @@
 -- Code that returns at its first refusal: the verdict that comes in is looked at once, a test that holds is returned as its refusal, and
 -- what is returned beside a refusal does not matter. The laws have the form in which `search early` finds the proof of a way out; a fact
 -- that is a function, as that two numbers differ, is listed with it.
-use Prim.Native.Nat.{ℕ, _<_}
-use mathlib.Core.Path.{_≡_, ap, _∙_, sym}
-use mathlib.Core.Logic.{_≢_}
-use mathlib.Core.Bool.{Bool, true, false, not}
-use mathlib.Core.List.{List}
-use mathlib.Core.Option.{Option, some}
-use native.Mathlib.Omega.{arith}
-use borrow.Author.Tests.{eq-eqb, ne-eqb}
-use lib.Dec.{eqb}
+use Rattle.paper.proofs.Kit.{ℕ, _<_, _≡_, ap, _∙_, sym, _≢_, Bool, true, false, not, List, Option, some, arith, eq-eqb, ne-eqb, eqb}
 use Rattle.paper.specs.declared.Refusal.{Refusal}
 use Rattle.paper.specs.Cell.{State}
 use Rattle.paper.specs.Act.{Act, _>>_, refuseIf}

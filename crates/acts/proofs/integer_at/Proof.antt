@@ -1,6 +1,6 @@
 use Rattle.undo.proofs.Auto.{lines}
 use Rattle.paper.specs.Process.{integerAt}
-use borrow.Author.Needs.{needs}
+use Rattle.paper.proofs.Kit.{needs}
 use Rattle.acts.proofs.integer_at.Statement.{statement}
 use Rattle.acts.proofs.integer_at.Tie as tie
 

@@ -1,8 +1,7 @@
 use Rattle.undo.proofs.Auto.{lines}
-use native.Mathlib.Omega.{arith}
+use Rattle.paper.proofs.Kit.{arith, needs}
 use Rattle.paper.specs.Act.{preserve}
 use Rattle.undo.proofs.Log.{writes-most}
-use borrow.Author.Needs.{needs}
 use Rattle.acts.proofs.preserve.Statement.{statement}
 use Rattle.acts.proofs.preserve.Tie as tie
 

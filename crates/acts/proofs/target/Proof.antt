@@ -1,6 +1,6 @@
 use Rattle.undo.proofs.Auto.{lines}
 use Rattle.paper.specs.Act.{target}
-use borrow.Author.Needs.{needs}
+use Rattle.paper.proofs.Kit.{needs}
 use Rattle.acts.proofs.target.Statement.{statement}
 use Rattle.acts.proofs.target.Tie as tie
 

@@ -1,6 +1,6 @@
 use Rattle.paper.specs.Act.{target, wordTo, wordAt}
 use Rattle.undo.proofs.Auto.{lines}
-use borrow.Author.Needs.{needs}
+use Rattle.paper.proofs.Kit.{needs}
 use Rattle.acts.proofs.word_to.Statement.{statement}
 use Rattle.acts.proofs.word_to.Tie as tie
 

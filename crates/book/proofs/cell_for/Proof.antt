@@ -1,7 +1,7 @@
 use Rattle.book.proofs.Lines.{by-case}
 use Rattle.paper.specs.Deck.{cellFor}
 use Rattle.records.specs.Symbols.{nameOf}
-use borrow.Author.Needs.{needs}
+use Rattle.paper.proofs.Kit.{needs}
 use Rattle.book.proofs.cell_for.Statement.{statement}
 use Rattle.book.proofs.cell_for.Tie as tie
 

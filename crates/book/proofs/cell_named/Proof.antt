@@ -1,8 +1,7 @@
 use Rattle.steps.proofs.Sequence.{give, seen}
 use Rattle.book.proofs.Lines.{by-case, part}
 use Rattle.paper.specs.Deck.{cellNamed}
-use mathlib.Core.Path.{sym}
-use borrow.Author.Needs.{needs}
+use Rattle.paper.proofs.Kit.{sym, needs}
 use Rattle.book.proofs.cell_named.Statement.{statement}
 use Rattle.book.proofs.cell_named.Tie as tie
 

@@ -1,8 +1,7 @@
 use Rattle.steps.proofs.Sequence.{any, sees}
 use Rattle.book.proofs.Lines.{told-part}
 use Rattle.paper.specs.Deck.{closes, allWords}
-use mathlib.Core.Path.{ap, sym, _∙_}
-use borrow.Author.Needs.{needs}
+use Rattle.paper.proofs.Kit.{ap, sym, _∙_, needs}
 use Rattle.book.proofs.closes.Statement.{statement}
 use Rattle.book.proofs.closes.Tie as tie
 

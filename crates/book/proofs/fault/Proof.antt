@@ -1,4 +1,4 @@
-use native.Mathlib.Omega.{arith}
+use Rattle.paper.proofs.Kit.{arith}
 use Rattle.book.proofs.Verdict.{told-number, told-other}
 use Rattle.book.proofs.fault.Statement.{statement}
 use Rattle.book.proofs.fault.Tie as tie

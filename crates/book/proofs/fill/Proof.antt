@@ -3,8 +3,7 @@ use Rattle.steps.proofs.Sequence.{sees, then}
 use Rattle.book.proofs.Lines.{part}
 use Rattle.book.specs.Kept.{waitingNoted}
 use Rattle.paper.specs.Deck.{fill}
-use mathlib.Core.Path.{refl, ap}
-use borrow.Author.Needs.{needs}
+use Rattle.paper.proofs.Kit.{refl, ap, needs}
 use Rattle.book.proofs.fill.Statement.{statement}
 use Rattle.book.proofs.fill.Tie as tie
 

@@ -2,8 +2,7 @@ use Rattle.steps.proofs.Sequence.{any, give, sees}
 use Rattle.book.proofs.Lines.{by-case, told-part}
 use Rattle.paper.specs.Region.{cellOf}
 use Rattle.paper.specs.Deck.{known}
-use mathlib.Core.Path.{ap, sym, _∙_}
-use borrow.Author.Needs.{needs}
+use Rattle.paper.proofs.Kit.{ap, sym, _∙_, needs}
 use Rattle.book.proofs.known.Statement.{statement}
 use Rattle.book.proofs.known.Tie as tie
 

@@ -1,7 +1,6 @@
 use Rattle.book.proofs.StepLaws.{links, links-not}
 use Rattle.steps.proofs.Sequence.{else, give, yes}
-use borrow.Author.Tests.{eq-eqb, ne-eqb}
-use borrow.Author.Needs.{needs}
+use Rattle.paper.proofs.Kit.{eq-eqb, ne-eqb, needs}
 use Rattle.book.proofs.link_up.Statement.{statement}
 use Rattle.book.proofs.link_up.Tie as tie
 

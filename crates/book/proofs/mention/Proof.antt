@@ -1,9 +1,7 @@
 use Rattle.steps.proofs.Sequence.{else, give-as, sees, yes}
 use Rattle.book.proofs.Lines.{part}
 use Rattle.paper.specs.Deck.{mention}
-use borrow.Author.Tests.{eq-eqb, ne-eqb}
-use mathlib.Core.Path.{sym, refl, _∙_}
-use borrow.Author.Needs.{needs}
+use Rattle.paper.proofs.Kit.{eq-eqb, ne-eqb, sym, refl, _∙_, needs}
 use Rattle.book.proofs.mention.Statement.{statement}
 use Rattle.book.proofs.mention.Tie as tie
 

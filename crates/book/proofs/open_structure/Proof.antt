@@ -2,8 +2,7 @@ use Rattle.book.proofs.StepLaws.{opens-structure}
 use Rattle.steps.proofs.Sequence.{give, sees, then}
 use Rattle.book.proofs.Lines.{part, test-at}
 use Rattle.paper.specs.Deck.{cellFor}
-use mathlib.Core.Path.{refl, sym}
-use borrow.Author.Needs.{needs}
+use Rattle.paper.proofs.Kit.{refl, sym, needs}
 use Rattle.book.proofs.open_structure.Statement.{statement}
 use Rattle.book.proofs.open_structure.Tie as tie
 

@@ -1,4 +1,4 @@
-use native.Mathlib.Omega.{arith}
+use Rattle.paper.proofs.Kit.{arith}
 use Rattle.steps.proofs.Sequence.{judged-yes, judged-old, judged-no}
 use Rattle.book.proofs.Verdict.{told-fine, told-fault}
 use Rattle.book.proofs.refuse_if.Statement.{statement}

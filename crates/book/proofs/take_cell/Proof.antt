@@ -4,8 +4,7 @@ use Rattle.book.proofs.Lines.{part}
 use Rattle.cells.specs.Bridge.{cellIn}
 use Rattle.paper.specs.Deck.{takeCell}
 use Rattle.paper.specs.Cell.{wordIn}
-use mathlib.Core.Path.{ap, _∙_}
-use borrow.Author.Needs.{needs}
+use Rattle.paper.proofs.Kit.{ap, _∙_, needs}
 use Rattle.book.proofs.take_cell.Statement.{statement}
 use Rattle.book.proofs.take_cell.Tie as tie
 

@@ -1,7 +1,6 @@
 use Rattle.cells.proofs.Laws.{by-kind, cond-same}
 use Rattle.paper.specs.Cell.{freeLink}
-use borrow.Author.Tests.{lt-ltb, le-ltb}
-use borrow.Author.Needs.{needs}
+use Rattle.paper.proofs.Kit.{lt-ltb, le-ltb, needs}
 use Rattle.cells.proofs.free_link.Statement.{statement}
 use Rattle.cells.proofs.free_link.Tie as tie
 

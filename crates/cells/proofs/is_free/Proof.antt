@@ -1,6 +1,6 @@
 use Rattle.cells.proofs.Laws.{by-kind, cond-same, cond-test}
 use Rattle.paper.specs.Cell.{isFree}
-use borrow.Author.Tests.{lt-ltb, le-ltb, lt-leb}
+use Rattle.paper.proofs.Kit.{lt-ltb, le-ltb, lt-leb}
 use Rattle.cells.proofs.is_free.Statement.{statement}
 use Rattle.cells.proofs.is_free.Tie as tie
 

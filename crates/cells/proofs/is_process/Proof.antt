@@ -1,8 +1,6 @@
 use Rattle.cells.proofs.Laws.{by-kind, cond-same}
 use Rattle.paper.specs.Cell.{isProcess}
-use Prim.Native.Nat.{_*_, _^_}
-use native.Mathlib.Omega.{arith}
-use borrow.Author.Tests.{lt-ltb, le-ltb}
+use Rattle.paper.proofs.Kit.{_*_, _^_, arith, lt-ltb, le-ltb}
 use Rattle.cells.proofs.is_process.Statement.{statement}
 use Rattle.cells.proofs.is_process.Tie as tie
 

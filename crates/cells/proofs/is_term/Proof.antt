@@ -1,8 +1,6 @@
-use Prim.Native.Nat.{_^_}
+use Rattle.paper.proofs.Kit.{_^_, arith, lt-ltb, le-ltb, lt-leb}
 use Rattle.cells.proofs.Laws.{by-kind, cond-same, cond-test}
 use Rattle.paper.specs.Cell.{isTerm}
-use native.Mathlib.Omega.{arith}
-use borrow.Author.Tests.{lt-ltb, le-ltb, lt-leb}
 use Rattle.cells.proofs.is_term.Statement.{statement}
 use Rattle.cells.proofs.is_term.Tie as tie
 

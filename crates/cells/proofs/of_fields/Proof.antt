@@ -1,7 +1,5 @@
-use native.Mathlib.Omega.{arith}
-use mathlib.Core.Path.{refl}
+use Rattle.paper.proofs.Kit.{arith, refl, needs}
 use Rattle.cells.proofs.Laws.{packs-word}
-use borrow.Author.Needs.{needs}
 use Rattle.cells.proofs.of_fields.Statement.{statement}
 use Rattle.cells.proofs.of_fields.Tie as tie
 

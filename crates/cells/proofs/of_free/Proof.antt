@@ -1,8 +1,6 @@
-use native.Mathlib.Omega.{arith}
-use mathlib.Core.Path.{refl}
+use Rattle.paper.proofs.Kit.{arith, refl, needs}
 use Rattle.paper.specs.Cell.{free}
 use Rattle.cells.proofs.Laws.{packs}
-use borrow.Author.Needs.{needs}
 use Rattle.cells.proofs.of_free.Statement.{statement}
 use Rattle.cells.proofs.of_free.Tie as tie
 

@@ -1,4 +1,4 @@
-use mathlib.Core.Path.{refl}
+use Rattle.paper.proofs.Kit.{refl}
 use Rattle.paper.specs.Cell.{process}
 use Rattle.cells.proofs.Laws.{packs}
 use Rattle.cells.proofs.of_process.Statement.{statement}

@@ -1,7 +1,5 @@
-use native.Mathlib.Omega.{arith}
-use mathlib.Core.Path.{refl}
+use Rattle.paper.proofs.Kit.{arith, refl, needs}
 use Rattle.cells.proofs.Laws.{packs-term}
-use borrow.Author.Needs.{needs}
 use Rattle.cells.proofs.of_term.Statement.{statement}
 use Rattle.cells.proofs.of_term.Tie as tie
 

@@ -1,4 +1,4 @@
-use native.Mathlib.Omega.{arith}
+use Rattle.paper.proofs.Kit.{arith}
 use Rattle.cells.proofs.Laws.{packs-word, fields-sum}
 use Rattle.cells.proofs.of_word.Statement.{statement}
 use Rattle.cells.proofs.of_word.Tie as tie

@@ -1,4 +1,4 @@
-use borrow.Author.Needs.{needs}
+use Rattle.paper.proofs.Kit.{needs}
 use Rattle.cells.proofs.pack.Statement.{statement}
 use Rattle.cells.proofs.pack.Tie as tie
 

@@ -1,6 +1,6 @@
 use Rattle.cells.specs.Layout.{unpackOf}
 use Rattle.cells.proofs.Store.{cell-at, cell-out}
-use borrow.Author.Needs.{needs}
+use Rattle.paper.proofs.Kit.{needs}
 use Rattle.cells.proofs.peek.Statement.{statement}
 use Rattle.cells.proofs.peek.Tie as tie
 

@@ -1,9 +1,6 @@
-use native.Mathlib.Omega.{arith}
-use Prim.Native.Nat.{_^_}
+use Rattle.paper.proofs.Kit.{arith, _^_, lt-ltb, le-ltb, needs}
 use Rattle.cells.proofs.Laws.{by-kind, cond-same}
 use Rattle.paper.specs.Cell.{termIn}
-use borrow.Author.Tests.{lt-ltb, le-ltb}
-use borrow.Author.Needs.{needs}
 use Rattle.cells.proofs.term_in.Statement.{statement}
 use Rattle.cells.proofs.term_in.Tie as tie
 

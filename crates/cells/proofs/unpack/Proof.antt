@@ -1,6 +1,5 @@
 use Rattle.cells.specs.Layout.{unpackOf}
-use borrow.Author.Tests.{lt-ltb, le-ltb}
-use borrow.Author.Needs.{needs}
+use Rattle.paper.proofs.Kit.{lt-ltb, le-ltb, needs}
 use Rattle.cells.proofs.unpack.Statement.{statement}
 use Rattle.cells.proofs.unpack.Tie as tie
 

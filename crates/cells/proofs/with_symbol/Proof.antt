@@ -1,6 +1,5 @@
-use native.Mathlib.Omega.{arith}
+use Rattle.paper.proofs.Kit.{arith, needs}
 use Rattle.cells.proofs.Laws.{packs-word}
-use borrow.Author.Needs.{needs}
 use Rattle.cells.proofs.with_symbol.Statement.{statement}
 use Rattle.cells.proofs.with_symbol.Tie as tie
 

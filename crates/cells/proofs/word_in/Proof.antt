@@ -1,6 +1,6 @@
 use Rattle.cells.proofs.Laws.{by-kind, cond-same}
 use Rattle.paper.specs.Cell.{wordIn}
-use borrow.Author.Tests.{lt-ltb, le-ltb}
+use Rattle.paper.proofs.Kit.{lt-ltb, le-ltb}
 use Rattle.cells.proofs.word_in.Statement.{statement}
 use Rattle.cells.proofs.word_in.Tie as tie
 

@@ -4,10 +4,7 @@ use Rattle.steps.proofs.Sequence.{most}
 use Rattle.steps.proofs.Listed.{noneFor}
 use Rattle.paper.specs.Walk.{member}
 use Rattle.paper.specs.Process.{listed}
-use native.Mathlib.Omega.{arith}
-use mathlib.Core.Path.{refl}
-use mathlib.Core.List.{[]}
-use borrow.Author.Needs.{needs}
+use Rattle.paper.proofs.Kit.{arith, refl, [], needs}
 use Rattle.cycle.proofs.by_family.Statement.{statement}
 use Rattle.cycle.proofs.by_family.Tie as tie
 

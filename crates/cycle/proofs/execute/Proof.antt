@@ -1,8 +1,6 @@
 use Rattle.cycle.proofs.ExecuteLaws.{stopped, performed, descended, not-one}
 use Rattle.structures.proofs.Whole.{clean-as}
-use mathlib.Core.Path.{sym, ap, _∙_}
-use native.Mathlib.Omega.{arith}
-use borrow.Author.Needs.{needs}
+use Rattle.paper.proofs.Kit.{sym, ap, _∙_, arith, needs}
 use Rattle.cycle.proofs.execute.Statement.{statement}
 use Rattle.cycle.proofs.execute.Tie as tie
 

@@ -1,9 +1,7 @@
 use Rattle.structures.proofs.Whole.{clean-as}
 use Rattle.cycle.proofs.InterpretLaws.{not-fetched, interpreted}
 use Rattle.cycle.proofs.OrderLaws.{interprets}
-use mathlib.Core.Path.{sym}
-use native.Mathlib.Omega.{arith}
-use borrow.Author.Needs.{needs}
+use Rattle.paper.proofs.Kit.{sym, arith, needs}
 use Rattle.cycle.proofs.interpret.Statement.{statement}
 use Rattle.cycle.proofs.interpret.Tie as tie
 

@@ -4,9 +4,7 @@ use Rattle.steps.proofs.Sequence.{most, alike, any}
 use Rattle.structures.proofs.Whole.{clean-as}
 use Rattle.paper.specs.Cycle.{operate}
 use Rattle.paper.specs.Act.{choose}
-use mathlib.Core.Path.{refl, sym, ap, _∙_}
-use native.Mathlib.Omega.{arith}
-use borrow.Author.Needs.{needs}
+use Rattle.paper.proofs.Kit.{refl, sym, ap, _∙_, arith, needs}
 use Rattle.cycle.proofs.operate.Statement.{statement}
 use Rattle.cycle.proofs.operate.Tie as tie
 

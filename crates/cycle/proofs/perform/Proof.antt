@@ -1,8 +1,6 @@
 use Rattle.cycle.proofs.PartLaws.{printed-part, part-quiet, from-none}
 use Rattle.structures.proofs.Whole.{clean-as}
-use mathlib.Core.Logic.{⊎-elim}
-use native.Mathlib.Omega.{arith}
-use borrow.Author.Needs.{needs}
+use Rattle.paper.proofs.Kit.{⊎-elim, arith, needs}
 use Rattle.cycle.proofs.perform.Statement.{statement}
 use Rattle.cycle.proofs.perform.Tie as tie
 

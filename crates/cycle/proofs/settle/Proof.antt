@@ -1,4 +1,4 @@
-use borrow.Author.Needs.{needs}
+use Rattle.paper.proofs.Kit.{needs}
 use Rattle.cycle.specs.Turns.{Settles}
 use Rattle.cycle.proofs.settle.Statement.{statement}
 use Rattle.cycle.proofs.settle.Tie as tie

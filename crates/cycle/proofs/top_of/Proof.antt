@@ -1,6 +1,5 @@
 use Rattle.regions.proofs.LentLaws.{told-from}
-use native.Mathlib.Omega.{arith}
-use borrow.Author.Needs.{needs}
+use Rattle.paper.proofs.Kit.{arith, needs}
 use Rattle.cycle.proofs.top_of.Statement.{statement}
 use Rattle.cycle.proofs.top_of.Tie as tie
 

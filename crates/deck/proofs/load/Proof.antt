@@ -1,7 +1,6 @@
-use mathlib.Core.Path.{sym}
+use Rattle.paper.proofs.Kit.{sym, needs}
 use Rattle.paper.specs.Limits.{largestN}
 use Rattle.deck.proofs.OutcomeLaws.{in-range, marks-lent, loads-none, loads-fine, loads-refused}
-use borrow.Author.Needs.{needs}
 use Rattle.deck.proofs.load.Statement.{statement}
 use Rattle.deck.proofs.load.Tie as tie
 

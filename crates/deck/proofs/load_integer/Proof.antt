@@ -2,8 +2,7 @@ use Rattle.deck.proofs.RecordLaws.{placed}
 use Rattle.steps.proofs.Sequence.{bind}
 use Rattle.book.proofs.Lines.{test-at}
 use Rattle.paper.specs.Deck.{loadInteger}
-use mathlib.Core.Path.{refl}
-use borrow.Author.Needs.{needs}
+use Rattle.paper.proofs.Kit.{refl, needs}
 use Rattle.deck.proofs.load_integer.Statement.{statement}
 use Rattle.deck.proofs.load_integer.Tie as tie
 

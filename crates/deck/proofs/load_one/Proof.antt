@@ -4,10 +4,7 @@ use Rattle.deck.proofs.LoopLaws.{lettered}
 use Rattle.records.specs.Symbols.{Written}
 use Rattle.deck.specs.Load.{oneParsed}
 use Rattle.records.proofs.Laws.{all-symbols}
-use lib.ListN.{length}
-use mathlib.Core.Path.{sym, subst, _∙_}
-use native.Mathlib.Omega.{arith}
-use borrow.Author.Needs.{needs}
+use Rattle.paper.proofs.Kit.{length, sym, subst, _∙_, arith, needs}
 use Rattle.deck.proofs.load_one.Statement.{statement}
 use Rattle.deck.proofs.load_one.Tie as tie
 

@@ -4,11 +4,7 @@ use Rattle.deck.specs.Load.{oneParsed, oneRecord, AllLettered}
 use Rattle.steps.proofs.Sequence.{bind, give}
 use Rattle.records.specs.Symbols.{parsedOf}
 use Rattle.paper.specs.Deck.{wellFormed}
-use lib.ListN.{length}
-use mathlib.Core.Option.{none}
-use mathlib.Core.Path.{subst, refl}
-use native.Mathlib.Omega.{arith}
-use borrow.Author.Needs.{needs}
+use Rattle.paper.proofs.Kit.{length, none, subst, refl, arith, needs}
 use Rattle.deck.proofs.load_parsed.Statement.{statement}
 use Rattle.deck.proofs.load_parsed.Tie as tie
 

@@ -3,9 +3,7 @@ use Rattle.deck.specs.Load.{ordinary, oneRecord, Lettered}
 use Rattle.steps.proofs.Sequence.{give, then}
 use Rattle.records.specs.Symbols.{nameOf, recordOf}
 use Rattle.paper.specs.Deck.{loadRecord, loadWord}
-use lib.ListN.{length}
-use mathlib.Core.Path.{subst, sym}
-use borrow.Author.Needs.{needs}
+use Rattle.paper.proofs.Kit.{length, subst, sym, needs}
 use Rattle.deck.proofs.load_record.Statement.{statement}
 use Rattle.deck.proofs.load_record.Tie as tie
 

@@ -2,12 +2,7 @@ use Rattle.deck.proofs.LoopLaws.{Stands, Leaves, partAt, to-end, stands
 use Rattle.deck.proofs.LoopLaws.{leaves-refused, leaves-as, at-hand, reads-on, further, goes-round, ends}
 use Rattle.records.proofs.Laws.{few-symbols}
 use Rattle.records.specs.Symbols.{Written}
-use lib.ListN.{length, length-drop}
-use mathlib.Core.Logic.{⊎-elim}
-use mathlib.Core.Path.{_≡_, refl, ap, sym, _∙_}
-use Prim.Native.Nat.{_≤_, _-_}
-use native.Mathlib.Omega.{arith}
-use borrow.Author.Needs.{needs}
+use Rattle.paper.proofs.Kit.{length, length-drop, ⊎-elim, _≡_, refl, ap, sym, _∙_, _≤_, _-_, arith, needs}
 use Rattle.deck.proofs.load_records.Statement.{statement}
 use Rattle.deck.proofs.load_records.Tie as tie
 

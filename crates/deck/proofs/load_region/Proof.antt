@@ -6,14 +6,7 @@ use Rattle.book.proofs.Lines.{part}
 use Rattle.book.proofs.Verdict.{told-fine, told-fault}
 use Rattle.regions.specs.Table.{regionsOf}
 use Rattle.paper.specs.Deck.{loadRegion}
-use lib.Dec.{ltb}
-use lib.ListN.{length}
-use borrow.Author.Tests.{ltb-false}
-use mathlib.Core.Bool.{or-assoc}
-use mathlib.Core.Path.{_≡_, refl, ap, sym, subst, _∙_}
-use Prim.Native.Nat.{_+_}
-use native.Mathlib.Omega.{arith}
-use borrow.Author.Needs.{needs}
+use Rattle.paper.proofs.Kit.{ltb, length, ltb-false, or-assoc, _≡_, refl, ap, sym, subst, _∙_, _+_, arith, needs}
 use Rattle.deck.proofs.load_region.Statement.{statement}
 use Rattle.deck.proofs.load_region.Tie as tie
 

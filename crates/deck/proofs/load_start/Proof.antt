@@ -2,8 +2,7 @@ use Rattle.deck.proofs.RecordLaws.{starts}
 use Rattle.steps.proofs.Sequence.{sees, test}
 use Rattle.book.proofs.Lines.{part, test-at}
 use Rattle.paper.specs.Deck.{loadStart}
-use mathlib.Core.Path.{refl, sym}
-use borrow.Author.Needs.{needs}
+use Rattle.paper.proofs.Kit.{refl, sym, needs}
 use Rattle.deck.proofs.load_start.Statement.{statement}
 use Rattle.deck.proofs.load_start.Tie as tie
 

@@ -2,9 +2,7 @@ use Rattle.deck.proofs.RecordLaws.{placed}
 use Rattle.steps.proofs.Sequence.{alike, bind}
 use Rattle.book.proofs.Lines.{test-at}
 use Rattle.paper.specs.Deck.{loadWord, fill}
-use mathlib.Core.Path.{refl, ap}
-use native.Mathlib.Omega.{arith}
-use borrow.Author.Needs.{needs}
+use Rattle.paper.proofs.Kit.{refl, ap, arith, needs}
 use Rattle.deck.proofs.load_word.Statement.{statement}
 use Rattle.deck.proofs.load_word.Tie as tie
 

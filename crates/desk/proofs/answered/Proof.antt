@@ -1,10 +1,7 @@
-use mathlib.Core.Path.{ap, _∙_}
-use mathlib.Core.List.{_++_}
-use lib.ListN.{take}
+use Rattle.paper.proofs.Kit.{ap, _∙_, _++_, take, needs}
 use Rattle.paper.specs.Program.{answerLine}
 use Rattle.desk.specs.Page.{printed}
 use Rattle.desk.proofs.PageLaws.{page-answered}
-use borrow.Author.Needs.{needs}
 use Rattle.desk.proofs.answered.Statement.{statement}
 use Rattle.desk.proofs.answered.Tie as tie
 

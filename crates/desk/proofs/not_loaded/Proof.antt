@@ -1,7 +1,6 @@
-use mathlib.Core.Path.{ap, _∙_}
+use Rattle.paper.proofs.Kit.{ap, _∙_, needs}
 use Rattle.paper.specs.Program.{answerLine}
 use Rattle.desk.specs.Page.{printed}
-use borrow.Author.Needs.{needs}
 use Rattle.desk.proofs.not_loaded.Statement.{statement}
 use Rattle.desk.proofs.not_loaded.Tie as tie
 

@@ -1,11 +1,7 @@
-use mathlib.Core.Path.{ap, _∙_}
-use mathlib.Core.Logic.{⊎-elim}
-use native.Mathlib.Omega.{arith}
-use denote.Enum.Declared.{tagOf}
+use Rattle.paper.proofs.Kit.{ap, _∙_, ⊎-elim, arith, tagOf, needs}
 use Rattle.paper.proofs.LoadAnswer.{the-type}
 use Rattle.desk.specs.Page.{printed}
 use Rattle.desk.proofs.PageLaws.{deck-counted, prints-run, prints-answer}
-use borrow.Author.Needs.{needs}
 use Rattle.desk.proofs.replay.Statement.{statement}
 use Rattle.desk.proofs.replay.Tie as tie
 

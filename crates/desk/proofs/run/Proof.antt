@@ -1,5 +1,5 @@
 use Rattle.desk.proofs.PageLaws.{zeros-lent, zeros-kept, run-page, run-prints}
-use borrow.Author.Needs.{needs}
+use Rattle.paper.proofs.Kit.{needs}
 use Rattle.desk.proofs.run.Statement.{statement}
 use Rattle.desk.proofs.run.Tie as tie
 

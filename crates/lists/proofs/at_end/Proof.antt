@@ -1,4 +1,4 @@
-use borrow.Author.Needs.{needs}
+use Rattle.paper.proofs.Kit.{needs}
 use Rattle.paper.specs.Process.{atEnd}
 use Rattle.acts.proofs.Auto.{acting}
 use Rattle.lists.proofs.at_end.Statement.{statement}

@@ -1,5 +1,4 @@
-use native.Mathlib.Omega.{arith}
-use borrow.Author.Needs.{needs}
+use Rattle.paper.proofs.Kit.{arith, needs}
 use Rattle.paper.specs.Process.{deleteLast}
 use Rattle.steps.proofs.Sequence.{then, any}
 use Rattle.undo.proofs.Lines.{puts, once}

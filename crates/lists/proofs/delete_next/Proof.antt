@@ -1,5 +1,4 @@
-use native.Mathlib.Omega.{arith}
-use borrow.Author.Needs.{needs}
+use Rattle.paper.proofs.Kit.{arith, needs}
 use Rattle.paper.specs.Process.{deleteNext}
 use Rattle.steps.proofs.Sequence.{then, most}
 use Rattle.undo.proofs.Log.{writes-most}

@@ -1,7 +1,4 @@
-use mathlib.Core.Path.{ap}
-use native.Mathlib.Omega.{arith}
-use borrow.Author.Tests.{eq-eqb, ne-eqb}
-use borrow.Author.Needs.{needs}
+use Rattle.paper.proofs.Kit.{ap, arith, eq-eqb, ne-eqb, needs}
 use Rattle.paper.specs.Process.{atEnd, J60}
 use Rattle.steps.proofs.Sequence.{any, any-sees, yes, else, most, alike}
 use Rattle.undo.proofs.Lines.{looks, reads}

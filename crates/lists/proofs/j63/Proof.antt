@@ -1,5 +1,4 @@
-use mathlib.Core.Path.{ap}
-use borrow.Author.Needs.{needs}
+use Rattle.paper.proofs.Kit.{ap, needs}
 use Rattle.paper.specs.Process.{J63}
 use Rattle.paper.specs.Act.{store}
 use Rattle.steps.proofs.Sequence.{any, any-sees, then, alike}

@@ -1,6 +1,4 @@
-use native.Mathlib.Omega.{arith}
-use borrow.Author.Tests.{eq-eqb, ne-eqb}
-use borrow.Author.Needs.{needs}
+use Rattle.paper.proofs.Kit.{arith, eq-eqb, ne-eqb, needs}
 use Rattle.paper.specs.Process.{J68}
 use Rattle.steps.proofs.Sequence.{any, any-sees, test, yes, else, most}
 use Rattle.undo.proofs.Lines.{looks, reads}

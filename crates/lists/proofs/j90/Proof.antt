@@ -1,5 +1,4 @@
-use mathlib.Core.Path.{ap}
-use borrow.Author.Needs.{needs}
+use Rattle.paper.proofs.Kit.{ap, needs}
 use Rattle.paper.specs.Process.{J90}
 use Rattle.paper.specs.Act.{takeAs, push}
 use Rattle.steps.proofs.Sequence.{bind, alike}

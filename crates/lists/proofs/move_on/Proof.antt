@@ -1,4 +1,4 @@
-use borrow.Author.Needs.{needs}
+use Rattle.paper.proofs.Kit.{needs}
 use Rattle.paper.specs.Process.{moveOn}
 use Rattle.steps.proofs.Sequence.{then, any}
 use Rattle.undo.proofs.Lines.{looks}

@@ -1,6 +1,4 @@
-use mathlib.Core.Path.{refl, sym, _∙_}
-use native.Mathlib.Omega.{arith}
-use borrow.Author.Needs.{needs}
+use Rattle.paper.proofs.Kit.{refl, sym, _∙_, arith, needs}
 use Rattle.paper.specs.Process.{nextCell}
 use Rattle.steps.proofs.Sequence.{any, test, when, yes, else, most}
 use Rattle.undo.proofs.Lines.{reads, looks}

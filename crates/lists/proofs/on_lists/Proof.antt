@@ -1,7 +1,4 @@
-use mathlib.Core.Path.{refl}
-use mathlib.Core.List.{[], _∷_}
-use native.Mathlib.Omega.{arith}
-use borrow.Author.Needs.{needs}
+use Rattle.paper.proofs.Kit.{refl, [], _∷_, arith, needs}
 use Rattle.paper.specs.Process.{listed}
 use Rattle.paper.specs.Walk.{member}
 use Rattle.steps.proofs.Listed.{entryFor, noneFor}

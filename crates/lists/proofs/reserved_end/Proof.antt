@@ -1,5 +1,4 @@
-use mathlib.Core.Path.{sym, _∙_}
-use borrow.Author.Needs.{needs}
+use Rattle.paper.proofs.Kit.{sym, _∙_, needs}
 use Rattle.lists.proofs.reserved_end.Statement.{statement}
 use Rattle.lists.proofs.reserved_end.Tie as tie
 

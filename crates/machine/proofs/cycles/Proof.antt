@@ -1,9 +1,4 @@
-use Prim.Native.Nat.{_+_, _-_, _<_, _≤_}
-use mathlib.Core.Path.{_≡_, refl, ap, subst, _∙_, sym}
-use mathlib.Core.List.{List, []}
-use native.Mathlib.Omega.{arith}
-use borrow.Author.Tests.{not-true, not-false}
-use lib.ListN.{length, drop}
+use Rattle.paper.proofs.Kit.{_+_, _-_, _<_, _≤_, _≡_, refl, ap, subst, _∙_, sym, List, [], arith, not-true, not-false, length, drop, needs}
 use Rattle.paper.specs.Cell.{Region}
 use Rattle.paper.specs.Run.{isFinished, runFrom}
 use Rattle.cells.specs.Pack.{AllFormed}
@@ -13,7 +8,6 @@ use Rattle.cycle.specs.Turns.{stateAt, Ready, Came}
 use Rattle.machine.specs.declared.Ran.{Ran}
 use Rattle.machine.specs.Numbers.{numbers}
 use Rattle.machine.proofs.RunLaws.{run-finishes, run-spent, run-stops, run-goes, begins, closes, past-later}
-use borrow.Author.Needs.{needs}
 use Rattle.machine.proofs.cycles.Statement.{statement}
 use Rattle.machine.proofs.cycles.Tie as tie
 

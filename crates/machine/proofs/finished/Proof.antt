@@ -1,10 +1,7 @@
-use mathlib.Core.Path.{ap, sym, _∙_}
-use mathlib.Core.Bool.{Bool, _&&_}
-use lib.Dec.{eqb}
+use Rattle.paper.proofs.Kit.{ap, sym, _∙_, Bool, _&&_, eqb, needs}
 use Rattle.paper.specs.Cell.{Word, wordIn}
 use Rattle.paper.specs.Run.{isFinished}
 use Rattle.cells.specs.Bridge.{cellIn}
-use borrow.Author.Needs.{needs}
 use Rattle.machine.proofs.finished.Statement.{statement}
 use Rattle.machine.proofs.finished.Tie as tie
 

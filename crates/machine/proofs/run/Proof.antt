@@ -1,14 +1,10 @@
-use Prim.Native.Nat.{ℕ, _+_, _*_, _<_}
-use mathlib.Core.Path.{_≡_, refl, ap, subst, _∙_, sym}
-use native.Mathlib.Omega.{arith}
-use lib.ListN.{length, length-replicate}
+use Rattle.paper.proofs.Kit.{ℕ, _+_, _*_, _<_, _≡_, refl, ap, subst, _∙_, sym, arith, length, length-replicate, needs}
 use Rattle.paper.specs.Limits.{largestN}
 use Rattle.sound.proofs.SoundLaws.{passed-formed, passed-end, size-range}
 use Rattle.sound.specs.Asked.{Asks, Passed}
 use Rattle.machine.specs.declared.Ran.{Ran}
 use Rattle.machine.specs.Numbers.{numbers}
 use Rattle.machine.proofs.RunLaws.{run-unfit, run-over, run-cycles}
-use borrow.Author.Needs.{needs}
 use Rattle.machine.proofs.run.Statement.{statement}
 use Rattle.machine.proofs.run.Tie as tie
 

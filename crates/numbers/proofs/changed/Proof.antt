@@ -1,6 +1,4 @@
-use lib.IntN.{+ℤ-idl}
-use mathlib.Core.Path.{_∙_}
-use borrow.Author.Needs.{needs}
+use Rattle.paper.proofs.Kit.{+ℤ-idl, _∙_, needs}
 use Rattle.numbers.proofs.changed.Statement.{statement}
 use Rattle.numbers.proofs.changed.Tie as tie
 

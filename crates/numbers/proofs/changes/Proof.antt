@@ -1,6 +1,6 @@
 use Rattle.paper.specs.Process.{changes}
 use Rattle.numbers.proofs.Put.{reckoning}
-use borrow.Author.Needs.{needs}
+use Rattle.paper.proofs.Kit.{needs}
 use Rattle.numbers.proofs.changes.Statement.{statement}
 use Rattle.numbers.proofs.changes.Tie as tie
 

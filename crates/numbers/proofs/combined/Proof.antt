@@ -1,6 +1,5 @@
 use Rattle.numbers.proofs.Laws.{value-add, value-sub}
-use native.Mathlib.Omega.{arith}
-use borrow.Author.Needs.{needs}
+use Rattle.paper.proofs.Kit.{arith, needs}
 use Rattle.numbers.proofs.combined.Statement.{statement}
 use Rattle.numbers.proofs.combined.Tie as tie
 

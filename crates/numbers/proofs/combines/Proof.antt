@@ -3,9 +3,7 @@ use Rattle.steps.proofs.Sequence.{any, any-sees, then, alike}
 use Rattle.paper.specs.Process.{putTerm, combines}
 use Rattle.paper.specs.Act.{gives}
 use Rattle.paper.specs.Cell.{integer}
-use mathlib.Core.Path.{ap}
-use native.Mathlib.Omega.{arith}
-use borrow.Author.Needs.{needs}
+use Rattle.paper.proofs.Kit.{ap, arith, needs}
 use Rattle.numbers.proofs.combines.Statement.{statement}
 use Rattle.numbers.proofs.combines.Tie as tie
 

@@ -1,6 +1,6 @@
 use Rattle.numbers.proofs.Put.{reckoning}
 use Rattle.paper.specs.Process.{compares}
-use borrow.Author.Needs.{needs}
+use Rattle.paper.proofs.Kit.{needs}
 use Rattle.numbers.proofs.compares.Statement.{statement}
 use Rattle.numbers.proofs.compares.Tie as tie
 

@@ -1,6 +1,6 @@
 use Rattle.numbers.proofs.Put.{reckoning}
 use Rattle.paper.specs.Process.{compares0}
-use borrow.Author.Needs.{needs}
+use Rattle.paper.proofs.Kit.{needs}
 use Rattle.numbers.proofs.compares0.Statement.{statement}
 use Rattle.numbers.proofs.compares0.Tie as tie
 

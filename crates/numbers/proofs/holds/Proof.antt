@@ -1,6 +1,5 @@
 use Rattle.numbers.proofs.Laws.{order, equal}
-use mathlib.Core.Path.{sym}
-use borrow.Author.Needs.{needs}
+use Rattle.paper.proofs.Kit.{sym, needs}
 use Rattle.numbers.proofs.holds.Statement.{statement}
 use Rattle.numbers.proofs.holds.Tie as tie
 

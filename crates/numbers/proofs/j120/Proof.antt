@@ -1,6 +1,6 @@
 use Rattle.paper.specs.Process.{J120}
 use Rattle.numbers.proofs.Put.{reckoning}
-use borrow.Author.Needs.{needs}
+use Rattle.paper.proofs.Kit.{needs}
 use Rattle.numbers.proofs.j120.Statement.{statement}
 use Rattle.numbers.proofs.j120.Tie as tie
 

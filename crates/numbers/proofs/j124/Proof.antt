@@ -3,10 +3,7 @@ use Rattle.undo.proofs.Lines.{looks, reads, puts, once}
 use Rattle.steps.proofs.Sequence.{any, any-sees, test, when, then, alike}
 use Rattle.paper.specs.Process.{J124}
 use Rattle.paper.specs.Act.{gives}
-use Prim.Native.Nat.{_/_, _%_}
-use mathlib.Core.Path.{ap}
-use native.Mathlib.Omega.{arith}
-use borrow.Author.Needs.{needs}
+use Rattle.paper.proofs.Kit.{_/_, _%_, ap, arith, needs}
 use Rattle.numbers.proofs.j124.Statement.{statement}
 use Rattle.numbers.proofs.j124.Tie as tie
 

@@ -2,10 +2,7 @@ use Rattle.acts.proofs.Dispatch.{arms, unlisted}
 use Rattle.steps.proofs.Listed.{entryFor, noneFor}
 use Rattle.paper.specs.Process.{listed}
 use Rattle.paper.specs.Walk.{member}
-use mathlib.Core.List.{[], _∷_}
-use mathlib.Core.Path.{refl}
-use native.Mathlib.Omega.{arith}
-use borrow.Author.Needs.{needs}
+use Rattle.paper.proofs.Kit.{[], _∷_, refl, arith, needs}
 use Rattle.numbers.proofs.on_numbers.Statement.{statement}
 use Rattle.numbers.proofs.on_numbers.Tie as tie
 

@@ -4,8 +4,7 @@ use Rattle.undo.proofs.Lines.{puts, once}
 use Rattle.undo.proofs.Log.{writes-most}
 use Rattle.steps.proofs.Sequence.{test}
 use Rattle.paper.specs.Process.{putTerm}
-use native.Mathlib.Omega.{arith}
-use borrow.Author.Needs.{needs}
+use Rattle.paper.proofs.Kit.{arith, needs}
 use Rattle.numbers.proofs.put_term.Statement.{statement}
 use Rattle.numbers.proofs.put_term.Tie as tie
 

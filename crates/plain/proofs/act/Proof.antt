@@ -1,8 +1,6 @@
-use mathlib.Core.Path.{sym, ap}
-use native.Mathlib.Omega.{arith}
+use Rattle.paper.proofs.Kit.{sym, ap, arith, needs}
 use Rattle.steps.proofs.Sequence.{any, most, alike}
 use Rattle.plain.specs.Numbers.{actionOf}
-use borrow.Author.Needs.{needs}
 use Rattle.plain.proofs.act.Statement.{statement}
 use Rattle.plain.proofs.act.Tie as tie
 

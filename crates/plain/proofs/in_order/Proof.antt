@@ -1,8 +1,4 @@
-use Prim.Native.Nat.{_-_, _≤_}
-use mathlib.Core.Path.{_≡_, refl, ap, _∙_}
-use native.Mathlib.Omega.{arith}
-use lib.ListN.{getD, set}
-use borrow.Author.Needs.{needs}
+use Rattle.paper.proofs.Kit.{_-_, _≤_, _≡_, refl, ap, _∙_, arith, getD, set, needs}
 use Rattle.plain.proofs.Walked.{upTo, one-more, all-met}
 use Rattle.plain.proofs.in_order.Statement.{statement}
 use Rattle.plain.proofs.in_order.Tie as tie

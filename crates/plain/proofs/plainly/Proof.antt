@@ -1,7 +1,4 @@
-use Prim.Native.Nat.{ℕ, _+_, _*_}
-use mathlib.Core.Path.{refl, _∙_, subst}
-use native.Mathlib.Omega.{arith}
-use lib.ListN.{length, length-replicate}
+use Rattle.paper.proofs.Kit.{ℕ, _+_, _*_, refl, _∙_, subst, arith, length, length-replicate, needs}
 use Rattle.paper.specs.Limits.{largestN}
 use Rattle.undo.specs.Verdict.{told}
 use Rattle.undo.proofs.Leaves.{end-from}
@@ -10,7 +7,6 @@ use Rattle.sound.specs.Asked.{Asks, Passed}
 use Rattle.sound.proofs.SoundLaws.{size-range}
 use Rattle.plain.specs.Numbers.{actionOf}
 use Rattle.plain.proofs.Settled.{plain-unfit, plain-settled}
-use borrow.Author.Needs.{needs}
 use Rattle.plain.proofs.plainly.Statement.{statement}
 use Rattle.plain.proofs.plainly.Tie as tie
 

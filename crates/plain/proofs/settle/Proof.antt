@@ -1,9 +1,7 @@
-use mathlib.Core.Path.{sym, ap, _∙_}
-use native.Mathlib.Omega.{arith}
+use Rattle.paper.proofs.Kit.{sym, ap, _∙_, arith, needs}
 use Rattle.paper.specs.declared.RunAnswer.the-variants.{Refused as Stopped}
 use Rattle.undo.proofs.Verdict.{told-done}
 use Rattle.plain.specs.Numbers.{numbers, settledAs}
-use borrow.Author.Needs.{needs}
 use Rattle.plain.proofs.settle.Statement.{statement}
 use Rattle.plain.proofs.settle.Tie as tie
 

@@ -1,12 +1,8 @@
-use Prim.Native.Nat.{ℕ, _≤_}
-use mathlib.Core.Path.{refl, _∙_, subst}
-use native.Mathlib.Omega.{arith}
-use lib.ListN.{length, length-replicate}
+use Rattle.paper.proofs.Kit.{ℕ, _≤_, refl, _∙_, subst, arith, length, length-replicate, needs}
 use Rattle.paper.specs.Limits.{largestN}
 use Rattle.sound.specs.Asked.{Asks, Passed}
 use Rattle.sound.proofs.SoundLaws.{size-range}
 use Rattle.plain.proofs.Walked.{walk-unfit, walk-done, walk-refused}
-use borrow.Author.Needs.{needs}
 use Rattle.plain.proofs.walk.Statement.{statement}
 use Rattle.plain.proofs.walk.Tie as tie
 

@@ -1,9 +1,5 @@
 -- Recursion on the number of digits that are left.
-use Prim.Native.Nat.{ℕ, _<_, _-_, _/_}
-use native.Mathlib.Omega.{arith}
-use borrow.Author.Needs.{needs}
-use borrow.Fn.Kinds.{In}
-use borrow.Fn.PlainCycle.{Measures, is, falls, and}
+use Rattle.paper.proofs.Kit.{ℕ, _<_, _-_, _/_, arith, needs, In, Measures, is, falls, and}
 use Rattle.paper.specs.Limits.{longestLine}
 use Rattle.printing.proofs.digits.Reads as digits
 use Rattle.printing.proofs.digits.Kinds as digits-kinds

@@ -1,5 +1,5 @@
 use Rattle.printing.proofs.TextLaws.{text-as, text-named, text-unnamed}
-use borrow.Author.Needs.{needs}
+use Rattle.paper.proofs.Kit.{needs}
 use Rattle.printing.proofs.cell_text.Statement.{statement}
 use Rattle.printing.proofs.cell_text.Tie as tie
 

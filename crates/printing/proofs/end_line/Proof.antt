@@ -1,6 +1,5 @@
-use native.Mathlib.Omega.{arith}
+use Rattle.paper.proofs.Kit.{arith, needs}
 use Rattle.printing.proofs.TextLaws.{writes-one}
-use borrow.Author.Needs.{needs}
 use Rattle.printing.proofs.end_line.Statement.{statement}
 use Rattle.printing.proofs.end_line.Tie as tie
 

@@ -1,5 +1,5 @@
 use Rattle.printing.proofs.TextLaws.{text-as, integer-low, integer-high}
-use borrow.Author.Needs.{needs}
+use Rattle.paper.proofs.Kit.{needs}
 use Rattle.printing.proofs.integer_text.Statement.{statement}
 use Rattle.printing.proofs.integer_text.Tie as tie
 

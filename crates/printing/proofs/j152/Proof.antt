@@ -1,9 +1,8 @@
-use mathlib.Core.Path.{ap, _∙_}
+use Rattle.paper.proofs.Kit.{ap, _∙_, needs}
 use Rattle.paper.specs.Print.{symbolText}
 use Rattle.paper.specs.Process.{J152}
 use Rattle.printing.specs.Telling.{printPop}
 use Rattle.printing.proofs.PrintingLaws.{p-sees, p-text, p-alike}
-use borrow.Author.Needs.{needs}
 use Rattle.printing.proofs.j152.Statement.{statement}
 use Rattle.printing.proofs.j152.Tie as tie
 

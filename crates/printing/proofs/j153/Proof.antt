@@ -1,8 +1,7 @@
-use mathlib.Core.Path.{ap}
+use Rattle.paper.proofs.Kit.{ap, needs}
 use Rattle.paper.specs.Process.{J153}
 use Rattle.printing.specs.Telling.{printPop}
 use Rattle.printing.proofs.PrintingLaws.{p-sees, p-reads, p-alike}
-use borrow.Author.Needs.{needs}
 use Rattle.printing.proofs.j153.Statement.{statement}
 use Rattle.printing.proofs.j153.Tie as tie
 

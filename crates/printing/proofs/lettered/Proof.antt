@@ -1,6 +1,5 @@
-use native.Mathlib.Omega.{arith}
+use Rattle.paper.proofs.Kit.{arith, needs}
 use Rattle.printing.proofs.TextLaws.{text-lettered}
-use borrow.Author.Needs.{needs}
 use Rattle.printing.proofs.lettered.Statement.{statement}
 use Rattle.printing.proofs.lettered.Tie as tie
 

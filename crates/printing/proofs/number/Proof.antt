@@ -1,5 +1,5 @@
 use Rattle.printing.proofs.TextLaws.{text-number}
-use borrow.Author.Needs.{needs}
+use Rattle.paper.proofs.Kit.{needs}
 use Rattle.printing.proofs.number.Statement.{statement}
 use Rattle.printing.proofs.number.Tie as tie
 

@@ -1,5 +1,5 @@
 use Rattle.printing.proofs.TextLaws.{puts-line}
-use borrow.Author.Needs.{needs}
+use Rattle.paper.proofs.Kit.{needs}
 use Rattle.printing.proofs.number_line.Statement.{statement}
 use Rattle.printing.proofs.number_line.Tie as tie
 

@@ -1,9 +1,7 @@
-use mathlib.Core.Path.{refl}
-use native.Mathlib.Omega.{arith}
+use Rattle.paper.proofs.Kit.{refl, arith, needs}
 use Rattle.paper.specs.Process.{listed, J152, J153}
 use Rattle.steps.proofs.Listed.{entryFor}
 use Rattle.printing.proofs.PrintingLaws.{p-arm}
-use borrow.Author.Needs.{needs}
 use Rattle.printing.proofs.on_lines.Statement.{statement}
 use Rattle.printing.proofs.on_lines.Tie as tie
 

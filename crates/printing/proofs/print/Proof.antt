@@ -1,10 +1,8 @@
-use mathlib.Core.Path.{refl, sym, _∙_}
-use native.Mathlib.Omega.{arith}
+use Rattle.paper.proofs.Kit.{refl, sym, _∙_, arith, needs}
 use Rattle.regions.proofs.LentLaws.{told-from}
 use Rattle.undo.proofs.Leaves.{undone}
 use Rattle.undo.proofs.Verdict.{told-done}
 use Rattle.printing.proofs.PrintingLaws.{no-line, the-line, line-pops, line-fits}
-use borrow.Author.Needs.{needs}
 use Rattle.printing.proofs.print.Statement.{statement}
 use Rattle.printing.proofs.print.Tie as tie
 

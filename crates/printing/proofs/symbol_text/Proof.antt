@@ -1,5 +1,5 @@
 use Rattle.printing.proofs.TextLaws.{text-as, symbol-regional, symbol-other}
-use borrow.Author.Needs.{needs}
+use Rattle.paper.proofs.Kit.{needs}
 use Rattle.printing.proofs.symbol_text.Statement.{statement}
 use Rattle.printing.proofs.symbol_text.Tie as tie
 

@@ -1,11 +1,6 @@
 -- Invariant: the first i bytes of the line stand in `out` from `at` on, and the others are as they were.
-use Prim.Native.Nat.{_≤_, _+_, _-_}
-use mathlib.Core.Path.{_≡_, refl, ap, _∙_}
-use native.Mathlib.Omega.{arith}
-use lib.ListN.{length, getD, length-set}
-use lib.Seq.{paste, paste-zero}
+use Rattle.paper.proofs.Kit.{_≤_, _+_, _-_, _≡_, refl, ap, _∙_, arith, length, getD, length-set, paste, paste-zero, needs}
 use Rattle.printing.proofs.TextLaws.{paste-more}
-use borrow.Author.Needs.{needs}
 use Rattle.printing.proofs.write_line.Statement.{statement}
 use Rattle.printing.proofs.write_line.Tie as tie
 

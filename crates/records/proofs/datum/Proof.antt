@@ -1,5 +1,5 @@
 use Rattle.paper.specs.Record.{given}
-use borrow.Author.Needs.{needs}
+use Rattle.paper.proofs.Kit.{needs}
 use Rattle.records.proofs.datum.Statement.{statement}
 use Rattle.records.proofs.datum.Tie as tie
 

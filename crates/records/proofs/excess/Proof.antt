@@ -1,5 +1,5 @@
 use Rattle.records.proofs.Laws.{excess-low, excess-high}
-use borrow.Author.Needs.{needs}
+use Rattle.paper.proofs.Kit.{needs}
 use Rattle.records.proofs.excess.Statement.{statement}
 use Rattle.records.proofs.excess.Tie as tie
 

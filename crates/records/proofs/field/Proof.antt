@@ -1,8 +1,6 @@
 use Rattle.records.proofs.Laws.{field-regional, field-other, field-local, field-zero, field-blank}
 use Rattle.paper.specs.Record.{field}
-use mathlib.Core.Logic.{inl, inr}
-use mathlib.Core.Path.{_∙_, sym, ap}
-use borrow.Author.Needs.{needs}
+use Rattle.paper.proofs.Kit.{inl, inr, _∙_, sym, ap, needs}
 use Rattle.records.proofs.field.Statement.{statement}
 use Rattle.records.proofs.field.Tie as tie
 

@@ -1,6 +1,5 @@
 use Rattle.records.proofs.Laws.{record-1, record-2, record-3, record-4, record-5, kind-none}
-use mathlib.Core.Path.{_∙_, sym}
-use borrow.Author.Needs.{needs}
+use Rattle.paper.proofs.Kit.{_∙_, sym, needs}
 use Rattle.records.proofs.parse.Statement.{statement}
 use Rattle.records.proofs.parse.Tie as tie
 

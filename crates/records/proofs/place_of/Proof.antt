@@ -1,4 +1,4 @@
-use borrow.Author.Tests.{eq-eqb, ne-eqb}
+use Rattle.paper.proofs.Kit.{eq-eqb, ne-eqb}
 use Rattle.records.proofs.place_of.Statement.{statement}
 use Rattle.records.proofs.place_of.Tie as tie
 

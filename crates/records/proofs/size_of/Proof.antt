@@ -1,5 +1,5 @@
 use Rattle.records.proofs.Laws.{no-kind}
-use borrow.Author.Needs.{needs}
+use Rattle.paper.proofs.Kit.{needs}
 use Rattle.records.proofs.size_of.Statement.{statement}
 use Rattle.records.proofs.size_of.Tie as tie
 

@@ -1,4 +1,4 @@
-use borrow.Author.Needs.{needs}
+use Rattle.paper.proofs.Kit.{needs}
 use Rattle.records.proofs.symbols_at.Statement.{statement}
 use Rattle.records.proofs.symbols_at.Tie as tie
 

@@ -1,4 +1,4 @@
-use borrow.Author.Tests.{ne-eqb}
+use Rattle.paper.proofs.Kit.{ne-eqb}
 use Rattle.records.proofs.symbols_in.Statement.{statement}
 use Rattle.records.proofs.symbols_in.Tie as tie
 

@@ -1,7 +1,5 @@
 -- Invariant: the name of the cell among the rows left, laid out from where the loop stands, is its name among them all.
-use Prim.Native.Nat.{_≤_, _-_}
-use mathlib.Core.Path.{_≡_, refl, _∙_}
-use borrow.Author.Needs.{needs}
+use Rattle.paper.proofs.Kit.{_≤_, _-_, _≡_, refl, _∙_, needs}
 use Rattle.paper.specs.Limits.{firstDeck}
 use Rattle.paper.specs.Region.{lettersFrom}
 use Rattle.regions.specs.Lent.{rowsOf}

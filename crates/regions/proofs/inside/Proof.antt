@@ -1,5 +1,4 @@
-use borrow.Author.Tests.{lt-ltb, le-ltb}
-use borrow.Author.Needs.{needs}
+use Rattle.paper.proofs.Kit.{lt-ltb, le-ltb, needs}
 use Rattle.regions.proofs.inside.Statement.{statement}
 use Rattle.regions.proofs.inside.Tie as tie
 

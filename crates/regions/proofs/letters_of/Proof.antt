@@ -1,5 +1,4 @@
-use mathlib.Core.Path.{_∙_}
-use borrow.Author.Needs.{needs}
+use Rattle.paper.proofs.Kit.{_∙_, needs}
 use Rattle.regions.proofs.LentLaws.{name-0, name-H, name-W, name-J, name-deck}
 use Rattle.regions.proofs.letters_of.Statement.{statement}
 use Rattle.regions.proofs.letters_of.Tie as tie

@@ -1,6 +1,4 @@
-use mathlib.Core.Path.{refl}
-use native.Mathlib.Omega.{arith}
-use borrow.Author.Needs.{needs}
+use Rattle.paper.proofs.Kit.{refl, arith, needs}
 use Rattle.regions.proofs.LentLaws.{row-is}
 use Rattle.regions.proofs.row.Statement.{statement}
 use Rattle.regions.proofs.row.Tie as tie

@@ -1,7 +1,5 @@
-use mathlib.Core.Path.{sym}
-use lib.Seq.{length-take-le}
+use Rattle.paper.proofs.Kit.{sym, length-take-le, needs}
 use Rattle.desk.proofs.PageLaws.{text-within}
-use borrow.Author.Needs.{needs}
 use Rattle.replay.proofs.main.Statement.{statement}
 use Rattle.replay.proofs.main.Tie as tie
 

@@ -1,11 +1,7 @@
-use mathlib.Core.Path.{sym, _∙_}
-use borrow.Author.Tests.{not-true, not-false}
-use native.Mathlib.Omega.{arith}
-use lib.ListN.{length}
+use Rattle.paper.proofs.Kit.{sym, _∙_, not-true, not-false, arith, length, needs}
 use Rattle.sound.proofs.SoundLaws.{passed-end, size-range}
 use Rattle.sound.specs.Asked.{Passed}
 use Rattle.sound.proofs.AskLaws.{unfit-size, unfit-unsound}
-use borrow.Author.Needs.{needs}
 use Rattle.sound.proofs.asks.Statement.{statement}
 use Rattle.sound.proofs.asks.Tie as tie
 

@@ -1,11 +1,5 @@
 -- Invariant: the cells from c on pass just if all do, and with those counted so far give the number of free cells.
-use Prim.Native.Nat.{_≤_, _+_, _-_}
-use mathlib.Core.Bool.{true, false}
-use mathlib.Core.Path.{_≡_, refl, sym, _∙_}
-use native.Mathlib.Omega.{arith}
-use borrow.Author.Needs.{needs}
-use borrow.Author.Tests.{not-true, not-false}
-use lib.ListN.{drop}
+use Rattle.paper.proofs.Kit.{_≤_, _+_, _-_, true, false, _≡_, refl, sym, _∙_, arith, needs, not-true, not-false, drop}
 use Rattle.paper.specs.Sound.{freeCount}
 use Rattle.cells.specs.Bridge.{unpacked}
 use Rattle.sound.proofs.StoreLaws.{passes, pass-turn, pass-none, one-most, count-turn, count-none, tally-no, tally-yes}

@@ -1,7 +1,5 @@
 -- Invariant: the list from where the loop stands, with the cells still to be met, is right just if the whole is.
-use mathlib.Core.Bool.{true, false}
-use mathlib.Core.Path.{_≡_, refl, _∙_}
-use borrow.Author.Needs.{needs}
+use Rattle.paper.proofs.Kit.{true, false, _≡_, refl, _∙_, needs}
 use Rattle.paper.specs.Sound.{freeList}
 use Rattle.cells.specs.Bridge.{unpacked}
 use Rattle.sound.proofs.StoreLaws.{list-turn, list-end}

@@ -1,5 +1,4 @@
-use mathlib.Core.Path.{ap, sym, _∙_}
-use borrow.Author.Needs.{needs}
+use Rattle.paper.proofs.Kit.{ap, sym, _∙_, needs}
 use Rattle.paper.specs.Cell.{Word, wordIn}
 use Rattle.cells.specs.Bridge.{cellIn}
 use Rattle.sound.proofs.free_start.Statement.{statement}

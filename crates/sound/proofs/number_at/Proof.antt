@@ -1,6 +1,4 @@
-use mathlib.Core.Path.{sym}
-use borrow.Author.Needs.{needs}
-use lib.ListN.{List·getD-eq-default}
+use Rattle.paper.proofs.Kit.{sym, needs, List·getD-eq-default}
 use Rattle.sound.proofs.number_at.Statement.{statement}
 use Rattle.sound.proofs.number_at.Tie as tie
 

@@ -1,4 +1,4 @@
-use borrow.Author.Needs.{needs}
+use Rattle.paper.proofs.Kit.{needs}
 use Rattle.sound.proofs.NumberLaws.{number-word, number-free, number-term, number-process}
 use Rattle.sound.proofs.number_sound.Statement.{statement}
 use Rattle.sound.proofs.number_sound.Tie as tie

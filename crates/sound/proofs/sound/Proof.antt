@@ -1,7 +1,4 @@
-use mathlib.Core.Bool.{true, false}
-use mathlib.Core.Path.{ap, _∙_}
-use borrow.Author.Needs.{needs}
-use borrow.Author.Tests.{not-true, not-false}
+use Rattle.paper.proofs.Kit.{true, false, ap, _∙_, needs, not-true, not-false}
 use Rattle.paper.specs.Sound.{freeList}
 use Rattle.sound.proofs.SoundLaws.{from-first, at-unsound, at-free}
 use Rattle.sound.proofs.sound.Statement.{statement}

@@ -1,6 +1,4 @@
-use mathlib.Core.Path.{ap}
-use native.Mathlib.Omega.{arith}
-use borrow.Author.Needs.{needs}
+use Rattle.paper.proofs.Kit.{ap, arith, needs}
 use Rattle.paper.specs.Act.{push, gives}
 use Rattle.paper.specs.Process.{J6}
 use Rattle.steps.proofs.Sequence.{any, any-sees, then, alike}

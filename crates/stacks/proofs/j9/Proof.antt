@@ -1,4 +1,4 @@
-use borrow.Author.Needs.{needs}
+use Rattle.paper.proofs.Kit.{needs}
 use Rattle.paper.specs.Process.{J9}
 use Rattle.steps.proofs.Sequence.{any, any-sees, test, when, then}
 use Rattle.undo.proofs.Leaves.{reserving}

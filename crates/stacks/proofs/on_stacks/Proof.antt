@@ -1,8 +1,4 @@
-use mathlib.Core.Logic.{⊎-elim}
-use mathlib.Core.List.{[], _∷_}
-use mathlib.Core.Path.{refl}
-use native.Mathlib.Omega.{arith}
-use borrow.Author.Needs.{needs}
+use Rattle.paper.proofs.Kit.{⊎-elim, [], _∷_, refl, arith, needs}
 use Rattle.paper.specs.Walk.{member}
 use Rattle.paper.specs.Process.{listed, J2n, J3n, J4n, J5n}
 use Rattle.steps.proofs.Listed.{entryFor, noneFor}

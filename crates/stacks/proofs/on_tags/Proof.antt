@@ -1,7 +1,4 @@
-use mathlib.Core.List.{[], _∷_}
-use mathlib.Core.Path.{refl}
-use native.Mathlib.Omega.{arith}
-use borrow.Author.Needs.{needs}
+use Rattle.paper.proofs.Kit.{[], _∷_, refl, arith, needs}
 use Rattle.paper.specs.Walk.{member}
 use Rattle.paper.specs.Process.{listed}
 use Rattle.steps.proofs.Listed.{entryFor, noneFor}

@@ -1,9 +1,8 @@
-use native.Mathlib.Omega.{arith}
+use Rattle.paper.proofs.Kit.{arith, needs}
 use Rattle.paper.specs.Process.{J71}
 use Rattle.steps.proofs.Sequence.{then, any, any-sees, most}
 use Rattle.undo.proofs.Lines.{looks, reads}
 use Rattle.structures.proofs.Whole.{lists-clean}
-use borrow.Author.Needs.{needs}
 use Rattle.structures.proofs.j71.Statement.{statement}
 use Rattle.structures.proofs.j71.Tie as tie
 

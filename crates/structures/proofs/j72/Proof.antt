@@ -2,7 +2,7 @@ use Rattle.paper.specs.Process.{J72}
 use Rattle.steps.proofs.Sequence.{then, any-sees}
 use Rattle.undo.proofs.Lines.{looks}
 use Rattle.structures.proofs.Whole.{clean-as}
-use borrow.Author.Needs.{needs}
+use Rattle.paper.proofs.Kit.{needs}
 use Rattle.structures.proofs.j72.Statement.{statement}
 use Rattle.structures.proofs.j72.Tie as tie
 

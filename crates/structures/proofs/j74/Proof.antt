@@ -1,10 +1,9 @@
-use mathlib.Core.Path.{ap}
+use Rattle.paper.proofs.Kit.{ap, needs}
 use Rattle.paper.specs.Act.{gives}
 use Rattle.paper.specs.Process.{J74}
 use Rattle.steps.proofs.Sequence.{bind, any, any-sees, alike}
 use Rattle.undo.proofs.Lines.{looks}
 use Rattle.structures.proofs.Whole.{clean-as}
-use borrow.Author.Needs.{needs}
 use Rattle.structures.proofs.j74.Statement.{statement}
 use Rattle.structures.proofs.j74.Tie as tie
 

@@ -1,11 +1,8 @@
-use mathlib.Core.List.{[], _∷_}
-use mathlib.Core.Path.{refl}
-use native.Mathlib.Omega.{arith}
+use Rattle.paper.proofs.Kit.{[], _∷_, refl, arith, needs}
 use Rattle.paper.specs.Walk.{member}
 use Rattle.paper.specs.Process.{listed}
 use Rattle.steps.proofs.Listed.{entryFor, noneFor}
 use Rattle.acts.proofs.Dispatch.{arm, unlisted}
-use borrow.Author.Needs.{needs}
 use Rattle.structures.proofs.on_structures.Statement.{statement}
 use Rattle.structures.proofs.on_structures.Tie as tie
 

@@ -1,6 +1,5 @@
 use Rattle.undo.proofs.Verdict.{told-new}
-use native.Mathlib.Omega.{arith}
-use borrow.Author.Needs.{needs}
+use Rattle.paper.proofs.Kit.{arith, needs}
 use Rattle.undo.proofs.refused.Statement.{statement}
 use Rattle.undo.proofs.refused.Tie as tie
 

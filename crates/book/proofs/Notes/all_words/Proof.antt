@@ -1,13 +1,9 @@
 use Rattle.paper.specs.Limits.{manyLocals}
 use Rattle.book.proofs.KeptLaws.{words-missing, words-on, words-end}
-use lib.ListN.{length}
-use native.Mathlib.Omega.{arith}
+use Rattle.paper.proofs.Kit.{length, arith, _≡_, sym, _∙_, _≤_, _-_, needs}
 use Rattle.book.proofs.KeptLaws.{wordsFrom}
 use Rattle.book.specs.Kept.{localsOf}
 use Rattle.paper.specs.Deck.{allWords}
-use mathlib.Core.Path.{_≡_, sym, _∙_}
-use Prim.Native.Nat.{_≤_, _-_}
-use borrow.Author.Needs.{needs}
 use Rattle.book.proofs.Notes.all_words.Statement.{statement}
 use Rattle.book.proofs.Notes.all_words.Tie as tie
 

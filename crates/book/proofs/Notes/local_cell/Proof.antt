@@ -1,10 +1,6 @@
 use Rattle.paper.specs.Limits.{manyLocals}
-use lib.ListN.{length}
-use native.Mathlib.Omega.{arith}
-use mathlib.Core.Path.{_≡_}
+use Rattle.paper.proofs.Kit.{length, arith, _≡_, ap, sym, needs}
 use Rattle.book.proofs.KeptLaws.{local-at, local-out}
-use mathlib.Core.Path.{ap, sym}
-use borrow.Author.Needs.{needs}
 use Rattle.book.proofs.Notes.local_cell.Statement.{statement}
 use Rattle.book.proofs.Notes.local_cell.Tie as tie
 

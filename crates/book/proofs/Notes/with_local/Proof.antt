@@ -1,9 +1,5 @@
 use Rattle.paper.specs.Limits.{manyLocals}
-use lib.ListN.{length}
-use native.Mathlib.Omega.{arith}
-use mathlib.Core.Path.{_≡_}
-use lib.Seq.{set-out}
-use borrow.Author.Needs.{needs}
+use Rattle.paper.proofs.Kit.{length, arith, _≡_, set-out, needs}
 use Rattle.book.proofs.Notes.with_local.Statement.{statement}
 use Rattle.book.proofs.Notes.with_local.Tie as tie
 

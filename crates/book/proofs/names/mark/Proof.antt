@@ -1,6 +1,4 @@
-use lib.Seq.{set-out}
-use mathlib.Core.Path.{sym}
-use borrow.Author.Needs.{needs}
+use Rattle.paper.proofs.Kit.{set-out, sym, needs}
 use Rattle.book.proofs.names.mark.Statement.{statement}
 use Rattle.book.proofs.names.mark.Tie as tie
 

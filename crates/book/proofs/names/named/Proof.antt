@@ -1,7 +1,4 @@
-use lib.ListN.{List·getD-eq-default}
-use mathlib.Core.Bool.{false}
-use mathlib.Core.Path.{sym}
-use borrow.Author.Needs.{needs}
+use Rattle.paper.proofs.Kit.{List·getD-eq-default, false, sym, needs}
 use Rattle.book.proofs.names.named.Statement.{statement}
 use Rattle.book.proofs.names.named.Tie as tie
 

@@ -1,6 +1,6 @@
 use Rattle.steps.proofs.Sequence.{give}
 use Rattle.paper.specs.Cycle.{advance}
-use borrow.Author.Needs.{needs}
+use Rattle.paper.proofs.Kit.{needs}
 use Rattle.cycle.proofs.control.advance.Statement.{statement}
 use Rattle.cycle.proofs.control.advance.Tie as tie
 

@@ -1,6 +1,6 @@
 use Rattle.paper.specs.Cycle.{ascend}
 use Rattle.undo.proofs.Auto.{lines}
-use borrow.Author.Needs.{needs}
+use Rattle.paper.proofs.Kit.{needs}
 use Rattle.cycle.proofs.control.ascend.Statement.{statement}
 use Rattle.cycle.proofs.control.ascend.Tie as tie
 

@@ -1,8 +1,7 @@
 use Rattle.steps.proofs.Sequence.{yes, else, give}
 use Rattle.undo.proofs.Lines.{looks}
-use borrow.Author.Tests.{eq-eqb, ne-eqb}
+use Rattle.paper.proofs.Kit.{eq-eqb, ne-eqb, needs}
 use Rattle.paper.specs.Cycle.{branch}
-use borrow.Author.Needs.{needs}
 use Rattle.cycle.proofs.control.branch.Statement.{statement}
 use Rattle.cycle.proofs.control.branch.Tie as tie
 

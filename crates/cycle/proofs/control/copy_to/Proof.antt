@@ -1,10 +1,9 @@
 use Rattle.steps.proofs.Sequence.{alike}
 use Rattle.undo.proofs.Lines.{looks}
 use Rattle.paper.specs.Act.{store}
-use mathlib.Core.Path.{ap}
+use Rattle.paper.proofs.Kit.{ap, needs}
 use Rattle.paper.specs.Cycle.{copyTo}
 use Rattle.undo.proofs.Auto.{lines}
-use borrow.Author.Needs.{needs}
 use Rattle.cycle.proofs.control.copy_to.Statement.{statement}
 use Rattle.cycle.proofs.control.copy_to.Tie as tie
 

@@ -1,6 +1,6 @@
 use Rattle.paper.specs.Cycle.{goTo}
 use Rattle.undo.proofs.Auto.{lines}
-use borrow.Author.Needs.{needs}
+use Rattle.paper.proofs.Kit.{needs}
 use Rattle.cycle.proofs.control.go_to.Statement.{statement}
 use Rattle.cycle.proofs.control.go_to.Tie as tie
 

@@ -2,7 +2,7 @@ use Rattle.steps.proofs.Sequence.{bind, test, when, give-as}
 use Rattle.cells.proofs.Laws.{link-in}
 use Rattle.cells.specs.Layout.{unpackOf}
 use Rattle.paper.specs.Cycle.{linkOf}
-use borrow.Author.Needs.{needs}
+use Rattle.paper.proofs.Kit.{needs}
 use Rattle.cycle.proofs.control.link_of.Statement.{statement}
 use Rattle.cycle.proofs.control.link_of.Tie as tie
 

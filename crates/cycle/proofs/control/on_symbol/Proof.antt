@@ -1,9 +1,7 @@
 use Rattle.cycle.proofs.OperateLaws.{operates, the-sixth}
 use Rattle.paper.specs.Cycle.{operate}
 use Rattle.paper.specs.Act.{choose}
-use native.Mathlib.Omega.{arith}
-use mathlib.Core.Path.{refl}
-use borrow.Author.Needs.{needs}
+use Rattle.paper.proofs.Kit.{arith, refl, needs}
 use Rattle.cycle.proofs.control.on_symbol.Statement.{statement}
 use Rattle.cycle.proofs.control.on_symbol.Tie as tie
 

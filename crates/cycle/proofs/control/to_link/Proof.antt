@@ -2,7 +2,7 @@ use Rattle.steps.proofs.Sequence.{any}
 use Rattle.undo.proofs.Lines.{looks}
 use Rattle.undo.proofs.Leaves.{naming}
 use Rattle.paper.specs.Cycle.{toLink}
-use borrow.Author.Needs.{needs}
+use Rattle.paper.proofs.Kit.{needs}
 use Rattle.cycle.proofs.control.to_link.Statement.{statement}
 use Rattle.cycle.proofs.control.to_link.Tie as tie
 

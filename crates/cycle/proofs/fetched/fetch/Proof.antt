@@ -1,8 +1,7 @@
-use mathlib.Core.Path.{refl}
+use Rattle.paper.proofs.Kit.{refl, needs}
 use Rattle.acts.proofs.Used.{r-zero, r-free}
 use Rattle.cycle.specs.Order.{fetch}
 use Rattle.cycle.proofs.FetchLaws.{by-word, by-process, by-term, as-told}
-use borrow.Author.Needs.{needs}
 use Rattle.cycle.proofs.fetched.fetch.Statement.{statement}
 use Rattle.cycle.proofs.fetched.fetch.Tie as tie
 

@@ -1,10 +1,9 @@
-use mathlib.Core.Path.{refl}
+use Rattle.paper.proofs.Kit.{refl, needs}
 use Rattle.paper.specs.declared.Refusal.the-variants.{WrongKind}
 use Rattle.steps.proofs.Sequence.{bind, test, give}
 use Rattle.undo.proofs.Early.{hands-on, stops, t-fails-eq, t-passes-eq}
 use Rattle.cycle.specs.Order.{orderIn}
 use Rattle.cycle.proofs.FetchLaws.{as-told}
-use borrow.Author.Needs.{needs}
 use Rattle.cycle.proofs.fetched.order_in.Statement.{statement}
 use Rattle.cycle.proofs.fetched.order_in.Tie as tie
 

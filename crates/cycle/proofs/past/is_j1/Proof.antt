@@ -1,6 +1,4 @@
-use mathlib.Core.Path.{refl}
-use borrow.Author.Tests.{ne-eqb, eq-eqb}
-use borrow.Author.Needs.{needs}
+use Rattle.paper.proofs.Kit.{refl, ne-eqb, eq-eqb, needs}
 use Rattle.cycle.proofs.past.is_j1.Statement.{statement}
 use Rattle.cycle.proofs.past.is_j1.Tie as tie
 

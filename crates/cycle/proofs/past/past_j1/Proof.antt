@@ -1,11 +1,5 @@
 -- Invariant: the execution that was begun is the one that is left, and each turn has popped once.
-use Prim.Native.Nat.{_+_, _-_, _≤_}
-use mathlib.Core.Path.{_≡_, refl, _∙_, sym}
-use mathlib.Core.Bool.{true}
-use native.Mathlib.Omega.{arith}
-use lib.ListN.{length}
-use lib.Dec.{ltb}
-use borrow.Author.Tests.{ltb-true, eq-eqb}
+use Rattle.paper.proofs.Kit.{_+_, _-_, _≤_, _≡_, refl, _∙_, sym, true, arith, length, ltb, ltb-true, eq-eqb, needs}
 use Rattle.paper.specs.declared.Refusal.the-variants.{WrongKind}
 use Rattle.paper.specs.Cycle.{execute}
 use Rattle.paper.proofs.SoundStore.{and-true}
@@ -15,7 +9,6 @@ use Rattle.undo.specs.Did.{Top, lent}
 use Rattle.undo.proofs.Early.{t-passes-eq}
 use Rattle.cycle.specs.Reaches.{Reaches}
 use Rattle.cycle.proofs.ReachLaws.{reach-none, reach-then, reach-most, j1-begins, j1-turn, past}
-use borrow.Author.Needs.{needs}
 use Rattle.cycle.proofs.past.past_j1.Statement.{statement}
 use Rattle.cycle.proofs.past.past_j1.Tie as tie
 

@@ -1,5 +1,5 @@
 use Rattle.deck.proofs.FreshLaws.{begun}
-use borrow.Author.Needs.{needs}
+use Rattle.paper.proofs.Kit.{needs}
 use Rattle.deck.proofs.fresh.begin.Statement.{statement}
 use Rattle.deck.proofs.fresh.begin.Tie as tie
 

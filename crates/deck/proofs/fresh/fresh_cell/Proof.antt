@@ -1,11 +1,9 @@
-use native.Mathlib.Numerals.{add-one}
+use Rattle.paper.proofs.Kit.{add-one, ap, _∙_, sym, needs}
 use Rattle.paper.specs.Deck.{nextFree}
 use Rattle.paper.proofs.FreshLaws.{f-zero, f-H2, f-HW, f-J, f-region, f-free}
 use Rattle.deck.proofs.FreshLaws.{packs-as, empty-packs}
 use Rattle.paper.specs.declared.Symbol.{Symbol}
 use Rattle.paper.specs.Cell.{word, free, mkWord, emptyWord}
-use mathlib.Core.Path.{ap, _∙_, sym}
-use borrow.Author.Needs.{needs}
 use Rattle.deck.proofs.fresh.fresh_cell.Statement.{statement}
 use Rattle.deck.proofs.fresh.fresh_cell.Tie as tie
 

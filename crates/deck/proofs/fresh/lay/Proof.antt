@@ -1,11 +1,7 @@
 use Rattle.deck.proofs.FreshLaws.{set-below, laid}
 use Rattle.cells.specs.Pack.{Packs}
 use Rattle.paper.specs.Deck.{freshCell}
-use lib.ListN.{length, getD}
-use mathlib.Core.Path.{_≡_}
-use native.Mathlib.Omega.{arith}
-use Prim.Native.Nat.{ℕ, _≤_, _<_, _-_}
-use borrow.Author.Needs.{needs}
+use Rattle.paper.proofs.Kit.{length, getD, _≡_, arith, ℕ, _≤_, _<_, _-_, needs}
 use Rattle.deck.proofs.fresh.lay.Statement.{statement}
 use Rattle.deck.proofs.fresh.lay.Tie as tie
 

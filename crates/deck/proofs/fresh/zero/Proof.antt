@@ -1,9 +1,5 @@
 use Rattle.deck.proofs.FreshLaws.{set-below, all-alike}
-use lib.ListN.{length, getD}
-use mathlib.Core.Path.{_≡_, refl}
-use native.Mathlib.Omega.{arith}
-use Prim.Native.Nat.{ℕ, _≤_, _<_, _-_}
-use borrow.Author.Needs.{needs}
+use Rattle.paper.proofs.Kit.{length, getD, _≡_, refl, arith, ℕ, _≤_, _<_, _-_, needs}
 use Rattle.deck.proofs.fresh.zero.Statement.{statement}
 use Rattle.deck.proofs.fresh.zero.Tie as tie
 

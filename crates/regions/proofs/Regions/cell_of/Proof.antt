@@ -1,6 +1,5 @@
 use Rattle.regions.proofs.CellLaws.{cell-H, cell-W, cell-J, cell-deck}
-use mathlib.Core.Path.{sym, _∙_}
-use borrow.Author.Needs.{needs}
+use Rattle.paper.proofs.Kit.{sym, _∙_, needs}
 use Rattle.regions.proofs.Regions.cell_of.Statement.{statement}
 use Rattle.regions.proofs.Regions.cell_of.Tie as tie
 

@@ -3,11 +3,7 @@ use Rattle.regions.proofs.CellLaws.{more-fits, deck-here, deck-past, de
 use Rattle.regions.specs.Table.{regionsOf}
 use Rattle.paper.specs.Limits.{largestN, firstDeck}
 use Rattle.paper.specs.Region.{endOfRegions, cellFrom}
-use lib.ListN.{length}
-use mathlib.Core.Path.{_≡_, refl, ap, sym, _∙_}
-use Prim.Native.Nat.{_≤_, _<_, _+_, _-_}
-use native.Mathlib.Omega.{arith}
-use borrow.Author.Needs.{needs}
+use Rattle.paper.proofs.Kit.{length, _≡_, refl, ap, sym, _∙_, _≤_, _<_, _+_, _-_, arith, needs}
 use Rattle.regions.proofs.Regions.in_deck.Statement.{statement}
 use Rattle.regions.proofs.Regions.in_deck.Tie as tie
 

@@ -1,4 +1,4 @@
-use native.Mathlib.Omega.{arith}
+use Rattle.paper.proofs.Kit.{arith}
 use Rattle.regions.proofs.TableLaws.{few, full}
 use Rattle.regions.proofs.Regions.len.Statement.{statement}
 use Rattle.regions.proofs.Regions.len.Tie as tie

@@ -1,5 +1,4 @@
-use mathlib.Core.Path.{refl}
-use borrow.Author.Needs.{needs}
+use Rattle.paper.proofs.Kit.{refl, needs}
 use Rattle.regions.proofs.Regions.letter_new.Statement.{statement}
 use Rattle.regions.proofs.Regions.letter_new.Tie as tie
 

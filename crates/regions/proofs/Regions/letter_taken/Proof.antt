@@ -1,8 +1,5 @@
 -- Invariant: the letter is taken among the regions left just if it is among those from `from` on.
-use Prim.Native.Nat.{_-_}
-use mathlib.Core.Path.{_≡_, refl, sym, _∙_}
-use native.Mathlib.Omega.{arith}
-use borrow.Author.Needs.{needs}
+use Rattle.paper.proofs.Kit.{_-_, _≡_, refl, sym, _∙_, arith, needs}
 use Rattle.paper.specs.Region.{letterTaken}
 use Rattle.regions.proofs.RegionLaws.{rest, taken-there, not-there, taken-here, taken-more, taken-none}
 use Rattle.regions.proofs.Regions.letter_taken.Statement.{statement}

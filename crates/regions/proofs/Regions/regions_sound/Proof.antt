@@ -1,10 +1,5 @@
 -- Invariant: the regions left are sound from where the loop stands just if all are from 221; no sum wraps.
-use Prim.Native.Nat.{_≤_, _+_, _*_, _-_}
-use mathlib.Core.Bool.{true, false}
-use mathlib.Core.Path.{_≡_, refl, _∙_}
-use native.Mathlib.Omega.{arith}
-use borrow.Author.Needs.{needs}
-use borrow.Author.Tests.{not-true, not-false}
+use Rattle.paper.proofs.Kit.{_≤_, _+_, _*_, _-_, true, false, _≡_, refl, _∙_, arith, needs, not-true, not-false}
 use Rattle.paper.specs.Region.{regionsSound}
 use Rattle.regions.specs.Table.{regionsOf}
 use Rattle.regions.proofs.RegionLaws.{rest, sound-turn, sound-none}

@@ -1,9 +1,5 @@
 -- Invariant: the first i rows are those of the regions, the others 0; what is left of the regions ends where they all end; no sum wraps.
-use Prim.Native.Nat.{_≤_, _+_, _*_, _-_, _<_}
-use mathlib.Core.Path.{_≡_, refl, _∙_}
-use native.Mathlib.Omega.{arith}
-use borrow.Author.Needs.{needs}
-use lib.ListN.{length}
+use Rattle.paper.proofs.Kit.{_≤_, _+_, _*_, _-_, _<_, _≡_, refl, _∙_, arith, needs, length}
 use Rattle.paper.specs.Region.{endOfRegions}
 use Rattle.regions.specs.Table.{regionsOf}
 use Rattle.regions.proofs.RegionLaws.{rest, end-more, end-none}

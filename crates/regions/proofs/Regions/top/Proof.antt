@@ -1,8 +1,5 @@
 -- Invariant: what is left of the regions, laid out from where the loop stands, ends where they all end; no sum wraps.
-use Prim.Native.Nat.{_≤_, _+_, _*_, _-_}
-use mathlib.Core.Path.{_≡_, refl, _∙_}
-use native.Mathlib.Omega.{arith}
-use borrow.Author.Needs.{needs}
+use Rattle.paper.proofs.Kit.{_≤_, _+_, _*_, _-_, _≡_, refl, _∙_, arith, needs}
 use Rattle.paper.specs.Cell.{endOfRegions}
 use Rattle.regions.specs.Table.{regionsOf}
 use Rattle.regions.proofs.RegionLaws.{rest, end-more, end-none}

@@ -1,6 +1,5 @@
 use Rattle.regions.specs.Table.{withRegion}
-use borrow.Author.Tests.{lt-ltb, le-ltb}
-use borrow.Author.Needs.{needs}
+use Rattle.paper.proofs.Kit.{lt-ltb, le-ltb, needs}
 use Rattle.regions.proofs.Regions.with.Statement.{statement}
 use Rattle.regions.proofs.Regions.with.Tie as tie
 

@@ -1,4 +1,4 @@
-use borrow.Author.Needs.{needs}
+use Rattle.paper.proofs.Kit.{needs}
 use Rattle.structures.proofs.Turn.{chains-fine}
 use Rattle.structures.proofs.chains.arrive.Statement.{statement}
 use Rattle.structures.proofs.chains.arrive.Tie as tie

@@ -1,6 +1,4 @@
-use mathlib.Core.Path.{sym, _∙_}
-use native.Mathlib.Omega.{arith}
-use borrow.Author.Needs.{needs}
+use Rattle.paper.proofs.Kit.{sym, _∙_, arith, needs}
 use Rattle.structures.proofs.Holding.{clean-holds, clean-turns, holds-more, seen-more, ordered-none, ends-clears, ends-lists}
 use Rattle.structures.proofs.Turn.{chain-not, chain-new, chain-one, chain-long}
 use Rattle.structures.proofs.chains.chain.Statement.{statement}

@@ -1,10 +1,5 @@
 -- The chain: words along the LINKs. The cells without marks fall.
-use borrow.Author.Needs.{needs}
-use Prim.Native.Nat.{ℕ, suc, _+_, _%_, _<_, _≤_}
-use mathlib.Core.Path.{_≡_, refl, sym, ap, _∙_, subst}
-use mathlib.Core.List.{List, [], _∷_}
-use native.Mathlib.Omega.{arith}
-use lib.ListN.{length}
+use Rattle.paper.proofs.Kit.{needs, ℕ, suc, _+_, _%_, _<_, _≤_, _≡_, refl, sym, ap, _∙_, subst, List, [], _∷_, arith, length}
 use Rattle.paper.specs.Walk.{chain}
 use Rattle.cells.specs.Layout.{wordOf}
 use Rattle.undo.specs.Did.{Always}

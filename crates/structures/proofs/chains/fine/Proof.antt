@@ -1,6 +1,4 @@
-use mathlib.Core.Path.{sym, _∙_}
-use mathlib.Core.Bool.{true≢false}
-use borrow.Author.Needs.{needs}
+use Rattle.paper.proofs.Kit.{sym, _∙_, true≢false, needs}
 use Rattle.structures.proofs.chains.fine.Statement.{statement}
 use Rattle.structures.proofs.chains.fine.Tie as tie
 

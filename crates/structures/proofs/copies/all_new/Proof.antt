@@ -1,8 +1,4 @@
-use Prim.Native.Nat.{_-_}
-use mathlib.Core.Path.{_≡_, sym, subst}
-use mathlib.Core.Bool.{false, true≢false}
-use borrow.Author.Needs.{needs}
-use borrow.Author.Tests.{not-true}
+use Rattle.paper.proofs.Kit.{_-_, _≡_, sym, subst, false, true≢false, needs, not-true}
 use Rattle.paper.specs.Walk.{member}
 use Rattle.structures.specs.Copies.{newsOf}
 use Rattle.structures.proofs.copies.all_new.Statement.{statement}

@@ -1,8 +1,4 @@
-use borrow.Author.Needs.{needs}
-use Prim.Native.Nat.{_-_, _≤_}
-use mathlib.Core.Path.{_≡_, refl, sym, _∙_, subst}
-use mathlib.Core.Bool.{false, true≢false}
-use native.Mathlib.Omega.{arith}
+use Rattle.paper.proofs.Kit.{needs, _-_, _≤_, _≡_, refl, sym, _∙_, subst, false, true≢false, arith}
 use Rattle.paper.specs.Walk.{member}
 use Rattle.structures.specs.Copies.{newsOf}
 use Rattle.structures.proofs.Lists.{news-next, member-end}

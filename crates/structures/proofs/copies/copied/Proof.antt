@@ -1,7 +1,4 @@
-use borrow.Author.Needs.{needs}
-use Prim.Native.Nat.{ℕ}
-use mathlib.Core.List.{List}
-use mathlib.Core.Path.{_≡_, sym, ap, _∙_, subst}
+use Rattle.paper.proofs.Kit.{needs, ℕ, List, _≡_, sym, ap, _∙_, subst}
 use Rattle.paper.specs.Cell.{Cell, word, mkWord}
 use Rattle.paper.specs.Walk.{copied}
 use Rattle.cells.specs.declared.Cell.{Cell as CodeCell}

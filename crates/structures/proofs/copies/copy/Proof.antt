@@ -1,6 +1,5 @@
-use native.Mathlib.Omega.{arith}
+use Rattle.paper.proofs.Kit.{arith, needs}
 use Rattle.structures.proofs.Whole.{lists-begins, copied-whole}
-use borrow.Author.Needs.{needs}
 use Rattle.structures.proofs.copies.copy.Statement.{statement}
 use Rattle.structures.proofs.copies.copy.Tie as tie
 

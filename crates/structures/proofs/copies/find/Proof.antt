@@ -1,10 +1,5 @@
 -- The free list goes over the cells that are noted so far, and on from `next`.
-use borrow.Author.Needs.{needs}
-use borrow.Author.Tests.{not-false}
-use Prim.Native.Nat.{_-_, _%_, _<_, _≤_}
-use mathlib.Core.Path.{_≡_, refl, sym, ap, _∙_, subst}
-use native.Mathlib.Omega.{arith}
-use lib.ListN.{length, getD, length-set}
+use Rattle.paper.proofs.Kit.{needs, not-false, _-_, _%_, _<_, _≤_, _≡_, refl, sym, ap, _∙_, subst, arith, length, getD, length-set}
 use Rattle.paper.specs.Limits.{largestN}
 use Rattle.paper.specs.Cell.{Word}
 use Rattle.cells.specs.Bridge.{unpacked}

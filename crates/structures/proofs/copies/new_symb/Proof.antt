@@ -1,6 +1,4 @@
-use mathlib.Core.Path.{_∙_}
-use borrow.Author.Needs.{needs}
-use borrow.Author.Tests.{eq-eqb, ne-eqb}
+use Rattle.paper.proofs.Kit.{_∙_, needs, eq-eqb, ne-eqb}
 use Rattle.structures.proofs.copies.new_symb.Statement.{statement}
 use Rattle.structures.proofs.copies.new_symb.Tie as tie
 

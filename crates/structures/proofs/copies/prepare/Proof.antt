@@ -1,5 +1,4 @@
-use mathlib.Core.Path.{subst}
-use borrow.Author.Needs.{needs}
+use Rattle.paper.proofs.Kit.{subst, needs}
 use Rattle.structures.specs.Marks.{Clears}
 use Rattle.undo.proofs.Lines.{puts}
 use Rattle.structures.proofs.Whole.{prepared-taken, prepared-found}

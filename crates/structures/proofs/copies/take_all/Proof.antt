@@ -1,8 +1,4 @@
-use borrow.Author.Needs.{needs}
-use Prim.Native.Nat.{_-_, _<_, _≤_}
-use mathlib.Core.Path.{_≡_, refl, sym, ap, _∙_, subst}
-use native.Mathlib.Omega.{arith}
-use lib.ListN.{length, getD, length-set}
+use Rattle.paper.proofs.Kit.{needs, _-_, _<_, _≤_, _≡_, refl, sym, ap, _∙_, subst, arith, length, getD, length-set}
 use Rattle.undo.specs.Verdict.{told}
 use Rattle.paper.specs.Limits.{largestN}
 use Rattle.cells.specs.Layout.{unpackOf}

@@ -1,9 +1,8 @@
-use native.Mathlib.Omega.{arith}
+use Rattle.paper.proofs.Kit.{arith, needs}
 use Rattle.paper.specs.Walk.{erase}
 use Rattle.steps.proofs.Sequence.{any, most}
 use Rattle.undo.proofs.Lines.{reads}
 use Rattle.structures.proofs.Whole.{lists-clean}
-use borrow.Author.Needs.{needs}
 use Rattle.structures.proofs.frees.erase.Statement.{statement}
 use Rattle.structures.proofs.frees.erase.Tie as tie
 

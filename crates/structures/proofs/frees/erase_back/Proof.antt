@@ -1,5 +1,5 @@
 use Rattle.structures.proofs.Whole.{erased}
-use borrow.Author.Needs.{needs}
+use Rattle.paper.proofs.Kit.{needs}
 use Rattle.structures.proofs.frees.erase_back.Statement.{statement}
 use Rattle.structures.proofs.frees.erase_back.Tie as tie
 

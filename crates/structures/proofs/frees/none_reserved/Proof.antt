@@ -1,7 +1,4 @@
-use borrow.Author.Needs.{needs}
-use Prim.Native.Nat.{_-_, _≤_}
-use native.Mathlib.Omega.{arith}
-use lib.ListN.{length}
+use Rattle.paper.proofs.Kit.{needs, _-_, _≤_, arith, length}
 use Rattle.undo.specs.Verdict.{told}
 use Rattle.undo.proofs.Leaves.{reserving}
 use Rattle.structures.proofs.Loops.{Frees, free-more, free-end}

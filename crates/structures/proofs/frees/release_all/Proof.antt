@@ -1,8 +1,4 @@
-use borrow.Author.Needs.{needs}
-use Prim.Native.Nat.{_-_, _%_, _≤_}
-use mathlib.Core.Path.{_≡_, refl, _∙_}
-use native.Mathlib.Omega.{arith}
-use lib.ListN.{length, getD}
+use Rattle.paper.proofs.Kit.{needs, _-_, _%_, _≤_, _≡_, refl, _∙_, arith, length, getD}
 use Rattle.steps.proofs.Sequence.{bind, most}
 use Rattle.undo.specs.Verdict.{told}
 use Rattle.undo.proofs.Lines.{looks, puts, once}

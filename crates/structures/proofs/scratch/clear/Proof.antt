@@ -1,8 +1,5 @@
 -- What is still marked is among the first k of the order.
-use Prim.Native.Nat.{_-_, _<_, _≤_}
-use mathlib.Core.Path.{_≡_, subst}
-use native.Mathlib.Omega.{arith}
-use lib.ListN.{length, getD, length-set}
+use Rattle.paper.proofs.Kit.{_-_, _<_, _≤_, _≡_, subst, arith, length, getD, length-set}
 use Rattle.paper.specs.Limits.{largestN}
 use Rattle.structures.specs.Marks.{back, manyNumbers, Only}
 use Rattle.structures.proofs.Marks.{back-less, only-less, only-none}

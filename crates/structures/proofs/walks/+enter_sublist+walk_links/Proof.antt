@@ -1,14 +1,7 @@
 -- Walking along the LINKs and entering a sublist call each other. The levels that are left fall; along the LINKs, the cells without
 -- marks.
-use borrow.Author.Needs.{needs}
-use Prim.Native.Nat.{ℕ, _+_, _-_, _*_, _<_, _≤_}
-use mathlib.Core.Path.{_≡_, refl, sym, ap, _∙_}
-use mathlib.Core.Bool.{Bool, true, false, true≢false}
-use mathlib.Core.List.{List, _∷_}
-use native.Mathlib.Omega.{arith}
-use lib.ListN.{length}
-use borrow.Fn.Kinds.{In}
-use borrow.Fn.PlainCycle.{Measures, is, falls, and}
+use Rattle.paper.proofs.Kit.{needs, ℕ, _+_, _-_, _*_, _<_, _≤_, _≡_, refl, sym, ap, _∙_, Bool, true, false, true≢false, List, _∷_, arith, length, In}
+use Rattle.paper.proofs.Kit.{Measures, is, falls, and}
 use Rattle.paper.specs.Limits.{deepest}
 use Rattle.paper.specs.Cell.{Cell, linkIn}
 use Rattle.paper.specs.Walk.{enter, listNamed}

@@ -1,4 +1,4 @@
-use borrow.Author.Needs.{needs}
+use Rattle.paper.proofs.Kit.{needs}
 use Rattle.structures.proofs.Turn.{arrives-fine}
 use Rattle.structures.proofs.walks.arrive.Statement.{statement}
 use Rattle.structures.proofs.walks.arrive.Tie as tie

@@ -1,8 +1,4 @@
-use mathlib.Core.Path.{_≡_, refl, sym, _∙_}
-use mathlib.Core.Bool.{true, false, true≢false}
-use native.Mathlib.Omega.{arith}
-use borrow.Author.Needs.{needs}
-use borrow.Author.Tests.{not-true, le-ltb}
+use Rattle.paper.proofs.Kit.{_≡_, refl, sym, _∙_, true, false, true≢false, arith, needs, not-true, le-ltb}
 use Rattle.cells.specs.Layout.{unpackOf}
 use Rattle.structures.proofs.Meeting.{word-used}
 use Rattle.structures.proofs.walks.fine.Statement.{statement}

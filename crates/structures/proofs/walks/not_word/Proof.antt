@@ -1,6 +1,4 @@
-use mathlib.Core.Bool.{not}
-use mathlib.Core.Path.{ap}
-use borrow.Author.Needs.{needs}
+use Rattle.paper.proofs.Kit.{not, ap, needs}
 use Rattle.structures.proofs.walks.not_word.Statement.{statement}
 use Rattle.structures.proofs.walks.not_word.Tie as tie
 

@@ -1,6 +1,4 @@
-use mathlib.Core.Path.{ap}
-use mathlib.Core.List.{[]}
-use native.Mathlib.Omega.{arith}
+use Rattle.paper.proofs.Kit.{ap, [], arith}
 use Rattle.paper.specs.Walk.{walkBack, walkOf}
 use Rattle.steps.proofs.Sequence.{bind, give, from-is}
 use Rattle.undo.specs.Verdict.{told}
