@@ -1,6 +1,6 @@
 -- Demand 1, carried to the loader's call: of every outcome that the contract of `deck::load` allows. Each statement can be read without its
 -- proof.
-use Rattle.paper.proofs.Kit.{ℕ, zero, suc, _+_, _≤_, _≡_, refl, sym, ap, subst, _∙_, Bool, true, false, cond, List, [], _∷_, arith, ltb, ltb-true, length}
+use Rattle.paper.proofs.Kit.{ℕ, zero, suc, _≤_, _≡_, refl, sym, ap, subst, _∙_, Bool, true, false, cond, List, [], _∷_, arith, ltb, ltb-true, length}
 use Rattle.paper.proofs.Kit.{replicate, length-map}
 use Rattle.paper.specs.declared.Fault.{Fault}
 use Rattle.paper.specs.declared.Fault.the-variants.{PastEnd, UnknownKind, BadField, BadRegion, BadName, NoWord, NoCell, NotEnded}
@@ -18,10 +18,10 @@ use Rattle.cells.specs.Pack.{packOf, packed}
 use Rattle.cells.specs.Bridge.{unpacked}
 use Rattle.cells.proofs.Store.{unpacked-length}
 use Rattle.regions.specs.declared.Regions.{Regions}
-use Rattle.regions.specs.Table.{regionsOf, noRegions, andRegion, withRegion}
+use Rattle.regions.specs.Table.{noRegions, andRegion, withRegion}
 use Rattle.sound.specs.Store.{stateWith, storeSound}
 use Rattle.sound.proofs.SoundLaws.{in-form, passed-sound}
-use Rattle.sound.proofs.FitLaws.{EachFits, sound-fits, unpacked-packed, packed-formed}
+use Rattle.sound.proofs.FitLaws.{sound-fits, unpacked-packed, packed-formed}
 use Rattle.deck.specs.declared.Loaded.{Loaded}
 use Rattle.deck.specs.Load.{tableFrom, tableOf, Loads}
 use Rattle.machine.specs.declared.Ran.{Ran}
@@ -75,7 +75,7 @@ pub record Fit (r : Loaded) (s′ : List ℕ) (l : LoadOutcome) : Type 0 where
   pub is : (room : ℕ) → stateWith (r .regions) s′ [] room ≡ ready l room
 
 -- the three ways of a load
-pub data Way (s : List ℕ) (s′ : List ℕ) (r : Loaded) (l : LoadOutcome) : Type 0 where
+data Way (s s′ : List ℕ) (r : Loaded) (l : LoadOutcome) : Type 0 where
   loaded : r .answer ≡ AnswerLoaded → Fit r s′ l → Way s s′ r l
   refused : (f : Fault) (o : ℕ) → r .answer ≡ Broken f o → s′ ≡ replicate (length s) 0 → r .regions ≡ noRegions → Way s s′ r l
   small : r .answer ≡ BadSize → s′ ≡ s → r .regions ≡ noRegions → Way s s′ r l

@@ -1,7 +1,7 @@
 -- The page: lines, the answer's line, and zeros; and what the program prints, by the outcomes of its two calls.
-use Rattle.paper.proofs.Kit.{ℕ, zero, suc, _+_, _-_, _<_, _≤_, min, _≡_, refl, sym, ap, subst, _∙_, Bool, true, false, List, [], _∷_, _++_, arith, decLt}
-use Rattle.paper.proofs.Kit.{length, take, drop, replicate, length-append, length-replicate, replicate-append-replicate, length-take-le, drop-drop}
-use Rattle.paper.proofs.Kit.{drop-append-le, take-append-le, take-append-seam, take-all, take-length}
+use Rattle.paper.proofs.Kit.{ℕ, zero, suc, _+_, _-_, _<_, _≤_, min, _≡_, refl, sym, ap, subst, _∙_, List, [], _∷_, _++_, arith, decLt, length, take, drop}
+use Rattle.paper.proofs.Kit.{replicate, length-append, length-replicate, replicate-append-replicate, length-take-le, drop-drop, drop-append-le}
+use Rattle.paper.proofs.Kit.{take-append-le, take-append-seam, take-all, take-length}
 use Rattle.paper.specs.declared.LoadAnswer.{LoadAnswer}
 use Rattle.paper.specs.declared.LoadAnswer.the-variants.{Loaded as AnswerLoaded, BadSize, Broken}
 use Rattle.paper.specs.Limits.{largestBudget, programDeck, programCells, programRoom, longestLine, longestPrintout}
@@ -19,12 +19,12 @@ use Rattle.printing.specs.Text.{Puts}
 use Rattle.deck.specs.declared.Loaded.{Loaded}
 use Rattle.deck.specs.Load.{Loads}
 use Rattle.machine.specs.declared.Ran.{Ran}
-use Rattle.machine.specs.Numbers.{Numbers, numbers, inNumbers, runOn}
+use Rattle.machine.specs.Numbers.{numbers, inNumbers, runOn}
 use Rattle.machine.proofs.RunLaws.{run-passes}
 use Rattle.machine.proofs.Carried.{run-keeps-past}
 use Rattle.desk.specs.declared.Printout.{Printout}
 use Rattle.desk.specs.Page.{printed, runText}
-use Rattle.desk.proofs.LoadedRuns.{Fit, loaded-fits}
+use Rattle.desk.proofs.LoadedRuns.{loaded-fits}
 
 drop-zeros : (i n : ℕ) → drop i (replicate {A = ℕ} n 0) ≡ replicate (n - i) 0
 drop-zeros zero n = let e : n ≡ n - 0 = omega arith in ap (λ k. replicate k 0) e

@@ -20,19 +20,13 @@ pub struct Printout {
     pub bytes: Page,
 }
 
-fn wide(x: u8) -> u32
-    ensures { λ r. ⌜ r ≡ x ⌝ }
-{
-    x as u32
-}
-
 // The lines are the first `len` bytes of the page; "then the answer number in decimal and a line feed".
 fn answered(page: Page, len: usize, answer: u8) -> Printout
     requires { ⌜ (len ≤ programRoom) × (length page ≡ longestPrintout) × (drop len page ≡ replicate (longestPrintout - len) 0) ⌝ }
     ensures { λ r. ⌜ r ≡ printed (take len page ++ answerLine answer) ⌝ }
 {
     let mut bytes = page;
-    let n = printing::number_line(&mut bytes, len, wide(answer));
+    let n = printing::number_line(&mut bytes, len, answer as u32);
     Printout { n: n, bytes: bytes }
 }
 
