@@ -169,7 +169,13 @@ fn is_own(c: u16) -> bool
 pub fn not_own(go: u32, c: u16) -> u32
     ensures { λ r. ⌜ Judged (notOwn c) go r ⌝ }
 {
-    undo::refuse_if(go, is_own(c), 27, c)
+    if go != 0 {
+        return go;
+    }
+    if is_own(c) {
+        return undo::refused(27, c);
+    }
+    go
 }
 
 pub fn named(cells: &[u64], go: u32, c: u16) -> Got
@@ -359,6 +365,9 @@ pub fn own_restore(cells: &mut [u64], log: &mut [u64], go: u32, top: u16, c: u16
 {
     let w = own(cells, c);
     let go = has_below(go, c, w);
+    if go != 0 {
+        return go;
+    }
     pull_up(cells, log, go, top, c, (w % 65536) as u16)
 }
 
