@@ -1,12 +1,11 @@
 // What a line of answer is made of.
+ghost use mathlib.Core.Path.{_≡_};
 ghost use Prim.Native.Nat.{_<_};
+ghost use lib.ListN.{drop};
+ghost use Rattle.vectors.specs.Lines.{digestFrom, allAre, spoilt, unwritten, glyphOf, digitOf};
 use crate::input::byte;
 use paper::LoadAnswer;
-use paper::limits;
 use regions::Regions;
-
-// The cells of a walk, and zeros.
-type Cells = [u16; limits::LARGEST_N];
 
 pub fn text(t: &[u8]) {
     io::write_all(1, t);
@@ -17,7 +16,9 @@ pub fn number(n: u64) {
 }
 
 // The cells in one number: h * 1000003 + w for each, by 1000000007.
-pub fn digest(cells: &[u64]) -> u64 {
+pub fn digest(cells: &[u64]) -> u64
+    ensures { λ r. ⌜ r ≡ digestFrom 0 (now (cells .entry)) ⌝ }
+{
     let mut h: u64 = 0;
     let mut c = 0;
     while c < cells.len() {
@@ -74,7 +75,9 @@ pub fn spoil(cells: &mut [u64]) {
     }
 }
 
-fn untouched(cells: &[u64]) -> bool {
+fn untouched(cells: &[u64]) -> bool
+    ensures { λ r. ⌜ r ≡ allAre spoilt (now (cells .entry)) ⌝ }
+{
     let mut c = 0;
     while c < cells.len() {
         if cells[c] != SPOILT {
@@ -110,7 +113,9 @@ pub fn clear(out: &mut [u8]) {
 }
 
 // "output bytes past the lines keep what they held"
-fn kept(out: &[u8], len: usize) -> bool {
+fn kept(out: &[u8], len: usize) -> bool
+    ensures { λ r. ⌜ r ≡ allAre unwritten (drop len (now (out .entry))) ⌝ }
+{
     let mut i = len;
     while i < out.len() {
         if out[i] != UNWRITTEN {
@@ -123,6 +128,7 @@ fn kept(out: &[u8], len: usize) -> bool {
 
 fn glyph(x: u8) -> u8
     requires { ⌜ x < 16 ⌝ }
+    ensures { λ r. ⌜ r ≡ glyphOf x ⌝ }
 {
     if x < 10 {
         return 48 + x;
@@ -131,7 +137,9 @@ fn glyph(x: u8) -> u8
 }
 
 // The first or the second digit of a byte.
-fn digit(b: u8, first: bool) -> u8 {
+fn digit(b: u8, first: bool) -> u8
+    ensures { λ r. ⌜ r ≡ digitOf b first ⌝ }
+{
     if first {
         return glyph(b / 16);
     }
@@ -174,13 +182,17 @@ pub fn lines(out: &[u8], len: usize) {
     }
 }
 
-fn wide(c: u16) -> u64 {
+fn wide(c: u16) -> u64
+    ensures { λ r. ⌜ r ≡ c ⌝ }
+{
     c as u64
 }
 
-fn zeros(cells: &Cells, from: usize) -> bool {
+fn zeros(cells: &[u16], from: usize) -> bool
+    ensures { λ r. ⌜ r ≡ allAre 0 (drop from (now (cells .entry))) ⌝ }
+{
     let mut i = from;
-    while i < limits::LARGEST_N {
+    while i < cells.len() {
         if cells[i] != 0 {
             return false;
         }
@@ -189,9 +201,9 @@ fn zeros(cells: &Cells, from: usize) -> bool {
     true
 }
 
-fn numbers(cells: &Cells, n: usize) {
+fn numbers(cells: &[u16], n: usize) {
     let mut i = 0;
-    while i < limits::LARGEST_N {
+    while i < cells.len() {
         if i < n {
             text(b" ");
             number(wide(cells[i]));
@@ -201,7 +213,7 @@ fn numbers(cells: &Cells, n: usize) {
 }
 
 // The cells of a walk; past them stand zeros.
-pub fn met(cells: &Cells, n: usize) {
+pub fn met(cells: &[u16], n: usize) {
     numbers(cells, n);
     if !zeros(cells, n) {
         text(b" past the walk");

@@ -1,4 +1,7 @@
-// The five kinds of case.
+// The five kinds of case. Whether one was read lies in the input, of which no contract can speak.
+ghost use mathlib.Core.Path.{_≡_};
+ghost use Rattle.plain.specs.Numbers.{numbers, plainOn};
+ghost use Rattle.vectors.specs.Lines.{actionAt};
 use crate::answers;
 use crate::input;
 use paper::RunAnswer;
@@ -65,7 +68,9 @@ fn walk(cells: &[u64], regions: Regions, x: Symbol) {
     answers::text(b"\n");
 }
 
-fn act(cells: &mut [u64], regions: Regions, action: u8) -> RunAnswer {
+fn act(cells: &mut [u64], regions: Regions, action: u8) -> RunAnswer
+    ensures { λ r. ⌜ numbers r (now (cells .exit)) ≡ plainOn (actionAt action) regions (now (cells .entry)) ⌝ }
+{
     match action {
         0 => plain::preserve(cells, regions),
         1 => plain::copy(cells, regions),

@@ -1,9 +1,16 @@
 // Numbers, region tables and cells from bytes; numbers are big-endian.
-ghost use Prim.Native.Nat.{_<_};
+ghost use mathlib.Core.Path.{_≡_};
+ghost use mathlib.Core.Bool.{true};
+ghost use Prim.Native.Nat.{_<_, _≤_};
+ghost use lib.ListN.{length};
+ghost use Rattle.paper.specs.Record.{byteAt, pairAt};
+ghost use Rattle.vectors.specs.Input.{fourAt, eightAt};
 use regions::Regions;
 
 // The next k bytes of the input, at the start of the buffer: whether there were as many.
-pub fn take(bytes: &mut [u8], k: usize) -> bool {
+pub fn take(bytes: &mut [u8], k: usize) -> bool
+    ensures { λ r. ⌜ (r ≡ true → k ≤ length (now (bytes .exit))) ⌝ }
+{
     if k <= bytes.len() {
         return io::read_full(0, &mut bytes[..k]) == k;
     }
@@ -11,7 +18,9 @@ pub fn take(bytes: &mut [u8], k: usize) -> bool {
 }
 
 // Past the end 0.
-pub fn byte(b: &[u8], at: usize) -> u8 {
+pub fn byte(b: &[u8], at: usize) -> u8
+    ensures { λ r. ⌜ r ≡ byteAt (now (b .entry)) at ⌝ }
+{
     if at < b.len() {
         return b[at];
     }
@@ -19,7 +28,7 @@ pub fn byte(b: &[u8], at: usize) -> u8 {
 }
 
 fn wide(b: u8) -> usize
-    ensures { λ r. ⌜ r < 256 ⌝ }
+    ensures { λ r. ⌜ (r ≡ b) × (r < 256) ⌝ }
 {
     b as usize
 }
@@ -27,24 +36,28 @@ fn wide(b: u8) -> usize
 // Two bytes from `at` on.
 fn two(b: &[u8], at: usize) -> usize
     requires { ⌜ at < 1000000 ⌝ }
-    ensures { λ r. ⌜ r < 65536 ⌝ }
+    ensures { λ r. ⌜ (r ≡ pairAt (now (b .entry)) at) × (r < 65536) ⌝ }
 {
     wide(byte(b, at)) * 256 + wide(byte(b, at + 1))
 }
 
 pub fn pair(b: &[u8], at: u16) -> usize
-    ensures { λ r. ⌜ r < 65536 ⌝ }
+    ensures { λ r. ⌜ (r ≡ pairAt (now (b .entry)) at) × (r < 65536) ⌝ }
 {
     two(b, at as usize)
 }
 
-pub fn four(b: &[u8], at: u16) -> u32 {
+pub fn four(b: &[u8], at: u16) -> u32
+    ensures { λ r. ⌜ r ≡ fourAt (now (b .entry)) at ⌝ }
+{
     let i = at as usize;
     (two(b, i) * 65536 + two(b, i + 2)) as u32
 }
 
 // The eight bytes of a cell.
-fn cell(b: &[u8]) -> u64 {
+fn cell(b: &[u8]) -> u64
+    ensures { λ r. ⌜ r ≡ eightAt (now (b .entry)) 0 ⌝ }
+{
     let high = two(b, 0) * 65536 + two(b, 2);
     let low = two(b, 4) * 65536 + two(b, 6);
     (high * 4294967296 + low) as u64
@@ -70,7 +83,9 @@ pub fn cells(bytes: &mut [u8], cells: &mut [u64], n: u16) -> bool {
 }
 
 // A table that has its place for 23 regions filled, and says that it has n.
-fn table(b: &[u8], n: u8) -> Regions {
+fn table(b: &[u8], n: u8) -> Regions
+    ensures { λ r. ⌜ r .n ≡ n ⌝ }
+{
     let mut r = Regions::none();
     let mut i = 0;
     while i < n {

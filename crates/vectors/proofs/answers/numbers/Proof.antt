@@ -1,4 +1,5 @@
 use Prim.Native.Nat.{_-_}
+use lib.ListN.{length}
 use borrow.Author.Needs.{needs}
 use Rattle.vectors.proofs.answers.numbers.Statement.{statement}
 use Rattle.vectors.proofs.answers.numbers.Tie as tie
@@ -7,7 +8,7 @@ abbrev Inv-loop : tie.InvT-loop
 Inv-loop cells n i₀ t4 i = Unit
 
 abbrev μ-loop : tie.MeasureT-loop
-μ-loop cells n i₀ t4 i = 16384 - i
+μ-loop cells n i₀ t4 i = length cells - i
 
 pub numbers-spec : {M : Type 1} → statement M
 numbers-spec =

@@ -1,3 +1,5 @@
+use mathlib.Core.Path.{sym}
+use mathlib.Core.Bool.{true≢false}
 use lib.Seq.{length-take-le}
 use borrow.Author.Needs.{needs}
 use Rattle.vectors.proofs.input.take.Statement.{statement}
@@ -12,4 +14,4 @@ take-spec =
     (λ c κs. search needs)
     (λ c. search needs)
     (λ c. search needs)
-    (λ c. search needs))
+    (λ c. λ e. absurd (true≢false (sym e))))

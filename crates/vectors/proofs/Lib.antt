@@ -1,0 +1,2 @@
+-- The loops over a list, turn by turn.
+pub mod ListLaws
