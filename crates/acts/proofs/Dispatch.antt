@@ -13,7 +13,6 @@ use Rattle.steps.proofs.Rest as last-arm
 use Rattle.steps.proofs.Listed.{entryFor, noneFor, entry-does, none-does}
 use Rattle.steps.proofs.Join.{to-refuse}
 use Rattle.steps.proofs.Sequence.{Judged, then, give, alike, most, under}
-use Rattle.undo.specs.Did.{lent}
 
 -- a block after which control goes on
 pub goes-on : {W : World State Refusal} {K : W .Rest → Type 0} {k : ℕ} {M : Act (Unit {0})} {x y : W .Held} {a r : Option Refusal}

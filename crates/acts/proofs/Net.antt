@@ -47,7 +47,7 @@ holds : (c : ℕ) (s : State) (b : Bool) → reservedIn (s .regions) c ≡ b →
 unfolding reserved
 holds c s b p = ap (λ (z : Bool). done z s) p
 
-touches : (c : ℕ) (s : State) (y : Cell) → eqb c 0 ≡ false → cellAt (s .cells) c ≡ y → isFree y ≡ false → touch c s ≡ done y s
+pub touches : (c : ℕ) (s : State) (y : Cell) → eqb c 0 ≡ false → cellAt (s .cells) c ≡ y → isFree y ≡ false → touch c s ≡ done y s
 unfolding touch ret
 touches c s y p at q = then-ok _ _ _ _ _ (passes _ _ s p) (bind-ok _ _ _ _ _ (peeks c s y at) (then-ok _ _ _ _ _ (passes _ _ s q) refl))
 

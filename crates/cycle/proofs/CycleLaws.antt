@@ -1,11 +1,11 @@
 -- Steps 2 and 3 from their parts.
 use Rattle.paper.proofs.Kit.{ℕ, _≤_, _≡_, ap, List, [], eq-eqb, ne-eqb, length, getD}
 use Rattle.paper.specs.Cell.{H, Word}
-use Rattle.paper.specs.Act.{Act, own}
+use Rattle.paper.specs.Act.{own}
 use Rattle.paper.specs.Cycle.{ascend, interpret, cycle}
 use Rattle.steps.specs.Follows.{Follows}
 use Rattle.steps.specs.Follows as steps
-use Rattle.steps.proofs.Sequence.{sees, yes, else, any-sees, most}
+use Rattle.steps.proofs.Sequence.{sees, yes, else, any-sees}
 use Rattle.undo.specs.Verdict.{told}
 use Rattle.undo.specs.Did.{Always, Top, reading, lent}
 use Rattle.undo.proofs.Lines.{looks}

@@ -1,32 +1,29 @@
 -- `execute` past all J1: a refusal, a process by its family, or a descent.
-use Rattle.paper.proofs.Kit.{ℕ, suc, _+_, _-_, _*_, _<_, _≤_, _≡_, refl, sym, ap, _∙_, subst, _≢_, Bool, true, false, _&&_, true≢false, Option, none, some}
-use Rattle.paper.proofs.Kit.{List, [], arith, eq-eqb, eqb-false, ne-eqb, eqb, length, getD}
+use Rattle.paper.proofs.Kit.{ℕ, _+_, _-_, _<_, _≤_, _≡_, refl, sym, ap, _∙_, subst, _≢_, true, false, true≢false, Option, none, some}
+use Rattle.paper.proofs.Kit.{List, [], arith, eq-eqb, length, getD}
 use Rattle.paper.specs.declared.Refusal.{Refusal}
 use Rattle.paper.specs.declared.Symbol.{Symbol}
-use Rattle.paper.specs.Cell.{Cell, Region, State, J, isProcess}
+use Rattle.paper.specs.Cell.{Cell, State, J, isProcess}
 use Rattle.paper.specs.Act.{Act, done, _>>=_, _>>_, ret, refuse, ifThen, touch, notOwn}
 use Rattle.paper.proofs.Handed.{when-done}
 use Rattle.paper.proofs.ReadLaws.{r-touch}
 use Rattle.paper.specs.Process.{then as andThen, goesOn, perform}
 use Rattle.paper.specs.Cycle.{Control, moved, descend, finish, performs, execute, executes}
-use Rattle.cells.specs.Layout.{unpackOf}
 use Rattle.cells.specs.Bridge.{Rest, stateOf, cellIn}
 use Rattle.steps.specs.Follows.{Follows, left}
 use Rattle.steps.specs.Follows as steps
 use Rattle.steps.proofs.Sequence.{Judged, bind, test, yes, else, any, give, most, from-is, undone}
-use Rattle.regions.specs.Lent.{Tells}
 use Rattle.undo.specs.Verdict.{told, refusalOf}
 use Rattle.undo.specs.Did.{Always, Top, reading, lent}
 use Rattle.undo.proofs.Verdict.{told-done, told-refused}
 use Rattle.undo.proofs.Lines.{reads}
 use Rattle.acts.specs.declared.GotSymbol.{GotSymbol}
 use Rattle.printing.specs.declared.Printed.{Printed}
-use Rattle.printing.specs.Telling.{Hears, telling}
-use Rattle.printing.proofs.TellingLaws.{quietly, quietly-reads}
+use Rattle.printing.proofs.TellingLaws.{quietly-reads}
 use Rattle.cycle.specs.Reaches.{Past}
 use Rattle.cycle.specs.Parts.{Part}
 use Rattle.cycle.proofs.ReachLaws.{reach-follows, told-none}
-use Rattle.cycle.proofs.PartLaws.{told-top, part-quiet, part-silent, part-as, from-none, reach-quietly}
+use Rattle.cycle.proofs.PartLaws.{told-top, part-quiet, part-as, reach-quietly}
 
 -- where a block was done, nothing was refused before it
 somewhere : Rest

@@ -1,32 +1,12 @@
 -- Step 3 in two parts, what is to be done and doing it, is step 3.
 use Rattle.paper.proofs.Kit.{ℕ, _≡_, refl, sym, ap, _∙_, Bool, true, false, eqb}
-use Rattle.paper.specs.declared.Refusal.{Refusal}
 use Rattle.paper.specs.declared.Refusal.the-variants.{WrongKind}
 use Rattle.paper.specs.declared.Symbol.{Symbol}
-use Rattle.paper.specs.Cell.{Cell, Word, State, regional, isTerm, isProcess, wordIn}
-use Rattle.paper.specs.Act.{Act, Res, done, refused, _>>=_, _>>_, ret, refuseIf, ifThen, choose, touch, notOwn, designate}
+use Rattle.paper.specs.Cell.{Cell, Word, regional, isTerm, isProcess, wordIn}
+use Rattle.paper.specs.Act.{Act, _>>=_, _>>_, ret, refuseIf, ifThen, choose, touch, notOwn, designate}
 use Rattle.paper.specs.Cycle.{operate, advance, obey, direct, interpret}
+use Rattle.steps.proofs.Steps.{bind-bind, then-bind}
 use Rattle.cycle.specs.Order.{Order, order, orderIn, fetch}
-
--- blocks may be joined otherwise
-module _ {A B C : Type 0} (g : B → Act C) where
-  after-bind : (f : A → Act B) (q : Res State Refusal A) (t : State) → ((λ _. q) >>= f >>= g) t ≡ ((λ _. q) >>= (λ a. f a >>= g)) t
-  unfolding _>>=_
-  after-bind f (done a u) t = refl
-  after-bind f (refused e) t = refl
-
-  bind-bind : (m : Act A) (f : A → Act B) → (m >>= f >>= g) ≡ (m >>= (λ a. f a >>= g))
-  unfolding _>>=_
-  bind-bind m f = λ i s. after-bind f (m s) s i
-
-  after-then : (n : Act B) (q : Res State Refusal A) (t : State) → (((λ _. q) >> n) >>= g) t ≡ ((λ _. q) >> (n >>= g)) t
-  unfolding _>>=_ _>>_
-  after-then n (done a u) t = refl
-  after-then n (refused e) t = refl
-
-  then-bind : (m : Act A) (n : Act B) → ((m >> n) >>= g) ≡ (m >> (n >>= g))
-  unfolding _>>=_ _>>_
-  then-bind m n = λ i s. after-then n (m s) s i
 
 -- "Then by P", and then the LINK
 abbrev pub doing : Order → Act (Unit {0})

@@ -1,20 +1,19 @@
 -- Laws of a part of a cycle: one that prints nothing, one before or after another.
-use Rattle.paper.proofs.Kit.{ℕ, _+_, _-_, _<_, _≤_, _≡_, refl, sym, ap, subst, _∙_, Option, none, List, [], arith, length, getD, take, drop, paste}
+use Rattle.paper.proofs.Kit.{ℕ, _-_, _≤_, _≡_, refl, sym, ap, subst, _∙_, Option, none, List, [], arith, length, getD, paste}
 use Rattle.paper.proofs.Kit.{paste-zero}
 use Rattle.paper.specs.declared.Refusal.{Refusal}
-use Rattle.paper.specs.Limits.{firstDeck}
-use Rattle.paper.specs.Cell.{Region, endOfRegions}
+use Rattle.paper.specs.Cell.{Region}
 use Rattle.paper.specs.Act.{Act, _>>=_}
 use Rattle.cells.specs.Bridge.{Rest}
 use Rattle.steps.specs.Follows.{Follows}
-use Rattle.steps.proofs.Sequence.{bind, most, from-is}
+use Rattle.steps.proofs.Sequence.{most, from-is}
 use Rattle.regions.specs.Lent.{Tells}
 use Rattle.undo.specs.Verdict.{told}
-use Rattle.undo.specs.Did.{Top, reading, lent}
+use Rattle.undo.specs.Did.{Top, lent}
 use Rattle.undo.proofs.Verdict.{told-done}
 use Rattle.printing.specs.declared.Printed.{Printed}
 use Rattle.printing.specs.Telling.{Heard, after, Hears, telling, lineIn, Stands, Printing}
-use Rattle.printing.proofs.TellingLaws.{quietly, quietly-reads, ending}
+use Rattle.printing.proofs.TellingLaws.{quietly, ending}
 use Rattle.cycle.specs.Parts.{Part}
 use Rattle.cycle.specs.Reaches.{Reaches}
 

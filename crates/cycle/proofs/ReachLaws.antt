@@ -1,24 +1,25 @@
 -- The laws of `Reaches`: a turn of J1, the last turn, and what follows.
-use Rattle.paper.proofs.Kit.{ℕ, zero, suc, _+_, _-_, _<_, _≤_, _≡_, refl, ap, _∙_, sym, subst, Bool, true, false, _&&_, and-false, Option, none, some, List}
+use Rattle.paper.proofs.Kit.{ℕ, zero, suc, _+_, _-_, _<_, _≤_, _≡_, refl, ap, _∙_, sym, subst, Bool, true, false, _&&_, Option, none, some, List}
 use Rattle.paper.proofs.Kit.{[], arith, add-one, eqb-true, eqb-false, ne-eqb, eq-eqb, lt-ltb, eqb, ltb, length}
 use Rattle.paper.specs.declared.Refusal.{Refusal}
-use Rattle.paper.specs.declared.Refusal.the-variants.{CellZero, FreeCell, WrongKind}
+use Rattle.paper.specs.declared.Refusal.the-variants.{WrongKind}
 use Rattle.paper.specs.declared.Symbol.{Symbol}
 use Rattle.paper.specs.Cell.{Cell, free, word, term, process, Word, State, H, J, cellAt, wordIn, isFree, isProcess, symbolOf}
-use Rattle.paper.specs.Act.{Act, Res, done, refused, _>>=_, _>>_, ret, refuse, refuseIf, ifThen, sized, peek, own, touch, notOwn, pop}
+use Rattle.paper.specs.Act.{Act, Res, done, refused, _>>=_, _>>_, ret, refuse, refuseIf, ifThen, sized, own, touch, notOwn, pop}
 use Rattle.paper.specs.Process.{Next, executing, J1, listed, performIn, perform}
 use Rattle.paper.specs.Cycle.{Control, finish, performs, execute, executes}
 use Rattle.paper.proofs.SoundStore.{and-true}
-use Rattle.cells.specs.Bridge.{Rest, stateOf, unpacked, cellIn}
+use Rattle.cells.specs.Bridge.{Rest, stateOf, cellIn}
 use Rattle.cells.proofs.Store.{unpacked-length}
-use Rattle.steps.specs.Follows.{World, Follows, To, left}
+use Rattle.steps.specs.Follows.{World, Follows, left}
 use Rattle.steps.specs.Follows as steps
-use Rattle.steps.proofs.Steps.{bind-ok, then-ok, bind-no, then-no, fails, passes}
+use Rattle.steps.proofs.Steps.{bind-ok, then-ok, bind-no, fails, passes}
 use Rattle.steps.proofs.Join.{to-sees}
 use Rattle.steps.proofs.Sequence.{Judged}
-use Rattle.undo.specs.Verdict.{told, refusalOf}
+use Rattle.undo.specs.Verdict.{told}
 use Rattle.undo.specs.Did.{Top, Always, lent, reading}
-use Rattle.undo.proofs.Verdict.{told-done, told-refused}
+use Rattle.undo.proofs.Verdict.{told-done}
+use Rattle.acts.proofs.Net.{touches}
 use Rattle.cycle.specs.Reaches.{Reaches, isJ1, Past}
 
 module _ {A : Type 0} {W : World State Refusal} {K : W .Rest → Type 0} where
@@ -56,12 +57,6 @@ unfolding left _>>_ ret refuse
 same none M N t p = p refl
 same (some z) M N t p = refl
 
-touches : (c : ℕ) (t : State) → eqb c 0 ≡ false → isFree (cellAt (t .cells) c) ≡ false → touch c t ≡ done (cellAt (t .cells) c) t
-unfolding touch peek ret
-touches c t p q =
-    then-ok (refuseIf (eqb c 0) CellZero) _ t t tt (passes _ _ t p)
-    (bind-ok (peek c) _ t t _ refl (then-ok (refuseIf _ (FreeCell c)) _ t t tt (passes _ _ t q) refl))
-
 yes-at : {A : Type 0} (m n : Act A) (t : State) {b : Bool} → b ≡ true → ifThen b m n t ≡ m t
 unfolding ifThen
 yes-at m n t p = rw p
@@ -90,7 +85,7 @@ j1-pops : (f : ℕ) (y : Symbol) (t : State) → y .num ≡ J 1 → isProcess (c
 unfolding execute notOwn
 j1-pops f y t n p =
     rw n
-    (bind-ok (touch (J 1)) _ t t _ (touches (J 1) t refl (not-free (cellAt (t .cells) (J 1)) p))
+    (bind-ok (touch (J 1)) _ t t _ (touches (J 1) t _ refl refl (not-free (cellAt (t .cells) (J 1)) p))
     (then-ok (notOwn (J 1)) _ t t tt (passes _ _ t refl) (yes-at _ _ t p ∙ j1-performs (λ z. execute f z) t)))
   where
     not-free : (x : Cell) → isProcess x ≡ true → isFree x ≡ false

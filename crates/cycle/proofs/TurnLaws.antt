@@ -1,10 +1,10 @@
 -- A cycle as a whole: what was accepted stands in cells and lines, what was refused in neither.
-use Rattle.paper.proofs.Kit.{ℕ, _+_, _-_, _*_, _<_, _≤_, _≡_, refl, sym, ap, subst, _∙_, Option, none, some, List, [], _++_, arith, length, take, drop}
+use Rattle.paper.proofs.Kit.{ℕ, _-_, _≡_, refl, sym, ap, subst, _∙_, none, some, List, [], arith, length, drop}
 use Rattle.paper.specs.declared.Refusal.{Refusal}
-use Rattle.paper.specs.Cell.{Region, State}
-use Rattle.paper.specs.Act.{Res, done, refused, _>>_, ret, refuse}
+use Rattle.paper.specs.Cell.{Region}
+use Rattle.paper.specs.Act.{done, refused, _>>_, ret, refuse}
 use Rattle.paper.specs.Cycle.{cycle}
-use Rattle.paper.specs.Run.{continues, stops, alone, joined, afterCycle}
+use Rattle.paper.specs.Run.{continues, stops, alone, afterCycle}
 use Rattle.cells.specs.Pack.{AllFormed}
 use Rattle.cells.specs.Bridge.{stateOf}
 use Rattle.steps.specs.Follows.{left}
@@ -13,7 +13,7 @@ use Rattle.undo.specs.Verdict.{told}
 use Rattle.undo.specs.Log.{rewindOf, Begun}
 use Rattle.undo.proofs.Verdict.{told-done}
 use Rattle.printing.specs.declared.Printed.{Printed}
-use Rattle.printing.specs.Telling.{Heard, after, Hears, telling, lineIn, Stands}
+use Rattle.printing.specs.Telling.{Heard, after, lineIn}
 use Rattle.printing.proofs.PrintingLaws.{line-length, so-far, past-it}
 use Rattle.cycle.specs.declared.Cycled.{Cycled}
 use Rattle.cycle.specs.declared.Cycled.the-variants.{Progress, Refused}

@@ -1,6 +1,6 @@
 -- Demands 1 and 2, carried to the call: of every outcome that the contract of `run` allows. A budget may be any number of cycles, so
 -- what is said of a run is said after each of its cycles. Each statement can be read without its proof.
-use Rattle.paper.proofs.Kit.{ℕ, zero, suc, _+_, _≤_, _≡_, refl, sym, ap, subst, _∙_, Bool, true, false, _⊎_, ⊎-elim, List, [], _++_, arith, length, drop}
+use Rattle.paper.proofs.Kit.{ℕ, zero, suc, _+_, _≤_, _≡_, refl, sym, ap, subst, _∙_, Bool, true, false, _⊎_, ⊎-elim, List, [], arith, length, drop}
 use Rattle.paper.proofs.Kit.{length-append, length-drop, length-map, drop-append-seam, leb, leb-true, leb-false}
 use Rattle.paper.specs.declared.Refusal.{Refusal}
 use Rattle.paper.specs.declared.RunAnswer.{RunAnswer}

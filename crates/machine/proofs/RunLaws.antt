@@ -1,6 +1,6 @@
 -- A run by what its cycles came to.
-use Rattle.paper.proofs.Kit.{ℕ, zero, suc, _+_, _-_, _<_, _≤_, _≡_, refl, sym, ap, subst, _∙_, Bool, true, false, _&&_, leb, leb-true, lt-leb, le-leb, List}
-use Rattle.paper.proofs.Kit.{[], _++_, some, arith, add-one, length, take, drop, take-append-drop, length-take-le, drop-drop}
+use Rattle.paper.proofs.Kit.{ℕ, zero, suc, _+_, _-_, _<_, _≤_, _≡_, refl, sym, ap, subst, _∙_, Bool, true, false, _&&_, leb, lt-leb, le-leb, List}
+use Rattle.paper.proofs.Kit.{[], _++_, some, arith, length, take, drop, take-append-drop, length-take-le, drop-drop}
 use Rattle.paper.specs.declared.Refusal.{Refusal}
 use Rattle.paper.specs.declared.RunAnswer.{RunAnswer}
 use Rattle.paper.specs.declared.RunAnswer.the-variants.{Finished, BadSize, BudgetSpent, NotSound, Refused}
@@ -8,7 +8,6 @@ use Rattle.paper.specs.Limits.{largestBudget}
 use Rattle.paper.specs.Cell.{Region, State, sizeFits}
 use Rattle.paper.specs.Run.{stops, continues, isFinished, outcome, turn, onTurn, runFrom, run}
 use Rattle.paper.specs.Sound.{sound}
-use Rattle.paper.proofs.SoundStore.{and-true}
 use Rattle.cells.specs.Pack.{AllFormed}
 use Rattle.cells.specs.Bridge.{unpacked, stateOf}
 use Rattle.cells.proofs.Store.{unpacked-length, packed-unpacked}

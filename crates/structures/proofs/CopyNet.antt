@@ -1,11 +1,11 @@
 -- Taking a new cell for each old one and then copying is `copyInto`, where the free list goes over new cells, each once: the empty words
 -- that stand in them in between are written over, and no old cell is one of them.
-use Rattle.paper.proofs.Kit.{ℕ, zero, suc, _<_, _≡_, refl, sym, ap, _∙_, subst, Bool, true, false, _||_, List, [], _∷_, map, _≢_, Option, arith, eqb-true}
-use Rattle.paper.proofs.Kit.{eqb-false, ltb-true, ltb-false, ne-eqb, eq-eqb, eqb, ltb, length, getD, set, length-set, List·getD-eq-default, getD-set-same}
+use Rattle.paper.proofs.Kit.{ℕ, zero, suc, _<_, _≡_, refl, sym, ap, _∙_, subst, Bool, true, false, List, [], _∷_, map, _≢_, Option, arith, eqb-true}
+use Rattle.paper.proofs.Kit.{eqb-false, ltb-true, ltb-false, ne-eqb, eq-eqb, eqb, ltb, length, set, length-set, List·getD-eq-default, getD-set-same}
 use Rattle.paper.proofs.Kit.{getD-set-other, set-set, set-comm, set-getD, set-out, ext-getD}
 use Rattle.paper.specs.declared.Refusal.{Refusal}
 use Rattle.paper.specs.Cell.{State, Word, Cell, free, word, term, process, isFree, wordIn, freeLink, emptyWord, withLink, withCells, cellAt}
-use Rattle.paper.specs.Act.{Act, Res, done, _>>=_, _>>_, ret, refuseIf, own, peek, put, takeAs}
+use Rattle.paper.specs.Act.{Res, done, _>>=_, _>>_, ret, own, peek, put, takeAs}
 use Rattle.paper.specs.Walk.{member, takeAll, renamed, copied, copyAll}
 use Rattle.paper.proofs.SoundStore.{never, or-false}
 use Rattle.cells.specs.Bridge.{Rest, stateOf, unpacked}

@@ -11,7 +11,7 @@ use Rattle.structures.specs.Marks.{back, manyNumbers, blank, Marked, Onl
 use Rattle.structures.specs.Walks.{Gets, Clean, Holds, Left, Ends, Lists}
 use Rattle.structures.proofs.Marks.{back-set, marked-none, marked-more, not-met, marked-only, unmet-mark, unmet-blank}
 use Rattle.structures.proofs.Leads.{done-not}
-use Rattle.structures.proofs.Meeting.{Used, New}
+use Rattle.structures.proofs.Meeting.{New}
 
 module _ {s order marks : List ℕ} {n : ℕ} (h : Holds s order marks n) where
   pub holds-clears : Clears order marks n

@@ -1,15 +1,16 @@
 -- What the blocks say of one turn: of a walk, of a list that is named, of a chain.
-use Rattle.paper.proofs.Kit.{ℕ, suc, _+_, _<_, _≡_, refl, sym, ap, _∙_, subst, Bool, true, false, cond, _||_, not, List, [], _∷_, Option, arith, add-one}
+use Rattle.paper.proofs.Kit.{ℕ, suc, _+_, _<_, _≡_, refl, sym, ap, _∙_, subst, Bool, true, false, cond, not, List, [], _∷_, Option, arith, add-one}
 use Rattle.paper.proofs.Kit.{length, ltb, eqb, eq-eqb, ne-eqb, lt-ltb, le-ltb}
 use Rattle.paper.specs.declared.Refusal.{Refusal}
 use Rattle.paper.specs.Limits.{firstDeck, deepest}
-use Rattle.paper.specs.Cell.{Word, Cell, free, word, term, process, isWord, isTerm, wordIn, linkIn, isHWJ, State}
-use Rattle.paper.specs.Act.{Act, Res, done, refused, _>>=_, _>>_, ret, refuseIf, ifThen, touch, asWord, wordAt, named, notOwn}
+use Rattle.paper.specs.Cell.{Word, Cell, free, word, term, process, isWord, isTerm, wordIn, linkIn, isHWJ}
+use Rattle.paper.specs.Act.{Act, _>>=_, _>>_, ret, refuseIf, ifThen, touch, asWord, wordAt, named, notOwn}
 use Rattle.paper.specs.declared.Refusal.the-variants.{WrongKind, BadWalk}
 use Rattle.paper.specs.Walk.{Trail, member, listNamed, meet, onward, enter, follow, chain, chainBack}
 use Rattle.cells.specs.Layout.{wordOf, qOf, symbOf}
 use Rattle.cells.specs.Bridge.{cellIn}
 use Rattle.steps.specs.Follows.{Follows}
+use Rattle.steps.proofs.Steps.{bind-bind}
 use Rattle.steps.proofs.Sequence.{bind, test, sees, alike, yes, else, give, give-as, judged-no}
 use Rattle.undo.specs.Verdict.{told}
 use Rattle.undo.specs.Did.{Always, reading}
@@ -53,16 +54,6 @@ module _ {A B : Type 0} (x : A) (g : A → Act B) where
   tested false false true e f h = refl
   tested false false false e f h = refl
 
-module _ {A B C : Type 0} (f : A → Act B) (g : B → Act C) where
-  at : (r : Res State Refusal A) (t : State) → ((λ _. r) >>= f >>= g) t ≡ ((λ _. r) >>= (λ x. f x >>= g)) t
-  unfolding _>>=_
-  at (done a u) t = refl
-  at (refused e) t = refl
-
-  assoc : (m : Act A) → (m >>= f >>= g) ≡ (m >>= (λ x. f x >>= g))
-  unfolding _>>=_
-  assoc m = λ i s. at (m s) s i
-
 -- a cell that passes all checks
 pub arrives-fine : (s marks : List ℕ) (b : Bool) (d c : ℕ) {x : Cell} → cellIn s c ≡ x → Fine marks b d c x → (seen : List ℕ) → Marked marks seen
     → Gets Always (arrives b d c seen) s 0 0 x
@@ -98,12 +89,12 @@ step-is : (b : Bool) (k d c : ℕ) (t : Trail) → (arrives b d c (t .met) >>= g
 unfolding arrives enter follow _>>=_ _>>_ refuseIf
 step-is true k d c t =
     let g = goes k d c (adds true c t) in
-    assoc _ g (meet c)
+    bind-bind g (meet c) _
     ∙ ap (λ (h : Cell → Act Trail). meet c >>= h)
     (λ i x. tested x g (not (isWord x)) (member c (t .met)) false (WrongKind c) (BadWalk c) (BadWalk c) i)
 step-is false k d c t =
     let g = goes k d c (adds false c t) in
-    assoc _ g (meet c)
+    bind-bind g (meet c) _
     ∙ ap (λ (h : Cell → Act Trail). meet c >>= h)
     (λ i x. tested x g false (member c (t .met)) (ltb deepest d) (WrongKind c) (BadWalk c) (BadWalk c) i)
 
@@ -178,7 +169,7 @@ module _ (c : ℕ) (seen : List ℕ) (k : ℕ) where
       → Follows reading Always 0 (chain (suc k) c seen) s (told 0) s r v
   unfolding chains chain _>>=_ _>>_ ret refuseIf
   chain-turn d =
-      alike (assoc _ onward-from (named c)
+      alike (bind-bind onward-from (named c) _
       ∙ ap (λ (h : Word → Act (List ℕ)). named c >>= h) (λ i x. tested x onward-from (member c seen) false false (BadWalk c) (BadWalk c) (BadWalk c) i)) d
 
   pub chain-refused : {s : List ℕ} {r : ℕ} {w : Word} {v : List ℕ} → 0 < r → Gets Always (chains c seen) s 0 r w → Gets Always (chain (suc k) c seen) s 0 r v

@@ -2,7 +2,7 @@
 use Rattle.paper.proofs.Kit.{ℕ, _+_, _-_, _*_, _<_, _≤_, _≡_, sym, ap, _∙_, subst, true, false, List, [], _∷_, _++_, map, reverse-reverse, Option, arith}
 use Rattle.paper.proofs.Kit.{length, take, getD, length-take-le, getD-take}
 use Rattle.paper.specs.declared.Refusal.{Refusal}
-use Rattle.paper.specs.Limits.{smallestN, largestN}
+use Rattle.paper.specs.Limits.{largestN}
 use Rattle.paper.specs.Cell.{Word, word, wordIn, withLink, isFree, cellAt}
 use Rattle.paper.specs.Act.{Act, own, put}
 use Rattle.paper.specs.Walk.{member, walkBack, noneReserved, releaseAll, eraseBack, takeAll, renamed, copyAll, copy}

@@ -1,12 +1,6 @@
 -- What is left of a list from place i on: one more is looked at, or there is none.
-use Prim.Native.Nat.{ℕ, _+_, _<_, _≤_}
-use mathlib.Core.Bool.{Bool, true, false, _&&_}
-use mathlib.Core.List.{List}
-use mathlib.Core.Path.{_≡_, refl}
-use native.Mathlib.Numerals.{add-one}
-use borrow.Author.Tests.{eq-eqb, ne-eqb}
-use lib.ListN.{length, getD, drop, drop-of-length-le}
-use lib.Seq.{drop-cons}
+use Rattle.paper.proofs.Kit.{ℕ, _+_, _<_, _≤_, true, false, List, _≡_, refl, add-one, eq-eqb, ne-eqb, length, getD, drop, drop-of-length-le}
+use Rattle.paper.proofs.Kit.{drop-cons}
 use Rattle.vectors.specs.Lines.{mixed, digestFrom, allAre}
 
 module _ (s : List ℕ) (i : ℕ) (here : i < length s) where

@@ -8,7 +8,6 @@ use Rattle.cycle.proofs.cycle.Tie as tie
 returns : tie.Need-returns
 returns c =
     let c₁ = c .before .before in
-    let c₁ = c₁ in
     let c₂ = c₁ .before .before .before .before .before .before .before in
     let c₃ = c₂ .before in
     let c₄ = c₃ .before .before .before in
@@ -36,7 +35,6 @@ returns c =
 interpret-requires : tie.Need-interpret-requires
 interpret-requires c κs =
     let c₁ = c .before .before .before .before .before .before .before .before .before .before in
-    let c₁ = c₁ in
     let c₂ = c₁ .before .before .before .before .before .before in
     record {
       clean = (c₂ .pre .0 .clean);
@@ -48,7 +46,6 @@ interpret-requires c κs =
 settle-requires-2 : tie.Need-settle-requires-2
 settle-requires-2 c κs =
     let c₁ = c .before .before .before .before .before .before .before .before in
-    let c₁ = c₁ in
     let c₂ = c₁ .before .before .before .before .before .before .before .before .before .before .before in
     let c₃ = c₂ .before .before .before .before .before .before in
     record {
@@ -66,7 +63,6 @@ settle-requires-2 c κs =
 returns-2 : tie.Need-returns-2
 returns-2 c =
     let c₁ = c .before .before in
-    let c₁ = c₁ in
     let c₂ = c₁ .before .before .before .before .before .before .before .before .before in
     let c₃ = c₂ .before .before .before .before .before .before in
     let c₄ = c₃ .before in

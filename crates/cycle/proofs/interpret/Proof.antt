@@ -1,6 +1,5 @@
 use Rattle.structures.proofs.Whole.{clean-as}
 use Rattle.cycle.proofs.InterpretLaws.{not-fetched, interpreted}
-use Rattle.cycle.proofs.OrderLaws.{interprets}
 use Rattle.paper.proofs.Kit.{sym, arith, needs}
 use Rattle.cycle.proofs.interpret.Statement.{statement}
 use Rattle.cycle.proofs.interpret.Tie as tie

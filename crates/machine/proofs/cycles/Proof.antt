@@ -1,4 +1,4 @@
-use Rattle.paper.proofs.Kit.{_+_, _-_, _<_, _≤_, _≡_, refl, ap, subst, _∙_, sym, List, [], arith, not-true, not-false, length, drop, needs}
+use Rattle.paper.proofs.Kit.{_-_, _<_, _≤_, _≡_, refl, ap, subst, _∙_, sym, List, [], arith, not-true, not-false, length, drop, needs}
 use Rattle.paper.specs.Cell.{Region}
 use Rattle.paper.specs.Run.{isFinished, runFrom}
 use Rattle.cells.specs.Pack.{AllFormed}

@@ -1,4 +1,4 @@
-use Rattle.paper.proofs.Kit.{ap, sym, _∙_, Bool, _&&_, eqb, needs}
+use Rattle.paper.proofs.Kit.{ap, sym, _∙_, _&&_, eqb, needs}
 use Rattle.paper.specs.Cell.{Word, wordIn}
 use Rattle.paper.specs.Run.{isFinished}
 use Rattle.cells.specs.Bridge.{cellIn}

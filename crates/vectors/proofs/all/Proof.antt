@@ -1,6 +1,4 @@
-use mathlib.Core.Path.{_≡_}
-use lib.ListN.{length}
-use borrow.Author.Needs.{needs}
+use Rattle.paper.proofs.Kit.{_≡_, length, needs}
 use Rattle.vectors.proofs.all.Statement.{statement}
 use Rattle.vectors.proofs.all.Tie as tie
 

@@ -12,7 +12,6 @@ returns-2 : tie.Need-returns-2
 unfolding advance
 returns-2 c =
     let c₁ = c .before .before .before .before in
-    let c₁ = c₁ in
     let c₂ = c₁ .before .before .before in
     rw (c₂ .if1 .left) (c₁ .to-link .ensures)
 

@@ -9,7 +9,6 @@ returns : tie.Need-returns
 unfolding branch
 returns c =
     let c₁ = c .before .before .before .before in
-    let c₁ = c₁ in
     let c₂ = c₁ .before .before .before in
     let c₃ = c₂ .before in
     looks _ (c₃ .own .ensures) (yes _ (eq-eqb _ _ (c₂ .if1 .taken)) (c₁ .go-to .ensures))

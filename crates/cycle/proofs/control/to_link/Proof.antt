@@ -10,7 +10,6 @@ returns : tie.Need-returns
 unfolding toLink
 returns c =
     let c₁ = c .before .before .before .before in
-    let c₁ = c₁ in
     let c₂ = c₁ .before .before .before in
     looks _ (naming _ _ _ (c₂ .name-of .ensures)) (any (c₁ .own-store .ensures))
 

@@ -1,5 +1,5 @@
 -- Invariant: the execution that was begun is the one that is left, and each turn has popped once.
-use Rattle.paper.proofs.Kit.{_+_, _-_, _≤_, _≡_, refl, _∙_, sym, true, arith, length, ltb, ltb-true, eq-eqb, needs}
+use Rattle.paper.proofs.Kit.{_+_, _-_, _≤_, _≡_, refl, _∙_, sym, arith, length, ltb, ltb-true, eq-eqb, needs}
 use Rattle.paper.specs.declared.Refusal.the-variants.{WrongKind}
 use Rattle.paper.specs.Cycle.{execute}
 use Rattle.paper.proofs.SoundStore.{and-true}
@@ -8,7 +8,7 @@ use Rattle.undo.specs.Verdict.{told}
 use Rattle.undo.specs.Did.{Top, lent}
 use Rattle.undo.proofs.Early.{t-passes-eq}
 use Rattle.cycle.specs.Reaches.{Reaches}
-use Rattle.cycle.proofs.ReachLaws.{reach-none, reach-then, reach-most, j1-begins, j1-turn, past}
+use Rattle.cycle.proofs.ReachLaws.{reach-none, reach-then, reach-most, j1-turn, past}
 use Rattle.cycle.proofs.past.past_j1.Statement.{statement}
 use Rattle.cycle.proofs.past.past_j1.Tie as tie
 
@@ -29,7 +29,6 @@ loop-holds c = (refl, refl, omega arith, reach-most _ (omega arith) reach-none)
 pop-requires : tie.Need-pop-requires Inv-loop μ-loop
 pop-requires c κs =
     let c₁ = c .before .before .before .before in
-    let c₁ = c₁ in
     let c₂ = c₁ .before .before .before in
     let c₃ = c₂ .before .before .before in
     let t = and-true (ltb 0 (c₂ .loop .turns)) _ (c₁ .if1 .taken) in
@@ -48,21 +47,18 @@ pop-requires c κs =
 sub-turns : tie.Need-sub-turns Inv-loop μ-loop
 sub-turns c =
     let c₁ = c .before .before .before .before .before .before .before .before .before .before in
-    let c₁ = c₁ in
     let c₂ = c₁ .before .before .before in
     omega (arith, ltb-true 0 (c₂ .loop .turns) (and-true (ltb 0 (c₂ .loop .turns)) _ (c₁ .if1 .taken) .0))
 
 loop-less : tie.Need-loop-less Inv-loop μ-loop
 loop-less c =
     let c₁ = c .before .before .before .before .before .before .before .before .before .before in
-    let c₁ = c₁ in
     let c₂ = c₁ .before .before .before in
     omega (arith, ltb-true 0 (c₂ .loop .turns) (and-true (ltb 0 (c₂ .loop .turns)) _ (c₁ .if1 .taken) .0))
 
 loop-again : tie.Need-loop-again Inv-loop μ-loop
 loop-again c =
     let c₁ = c .before .before .before .before .before in
-    let c₁ = c₁ in
     let c₂ = c₁ .before .before .before in
     let c₃ = c₂ .before .before in
     let c₄ = c₃ .before in

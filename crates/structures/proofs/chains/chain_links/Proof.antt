@@ -1,5 +1,5 @@
 -- The chain: words along the LINKs. The cells without marks fall.
-use Rattle.paper.proofs.Kit.{needs, ℕ, suc, _+_, _%_, _<_, _≤_, _≡_, refl, sym, ap, _∙_, subst, List, [], _∷_, arith, length}
+use Rattle.paper.proofs.Kit.{ℕ, suc, _+_, _%_, _<_, _≤_, _≡_, refl, sym, ap, _∙_, subst, List, [], _∷_, arith, length}
 use Rattle.paper.specs.Walk.{chain}
 use Rattle.cells.specs.Layout.{wordOf}
 use Rattle.undo.specs.Did.{Always}

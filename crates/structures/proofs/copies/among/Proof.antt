@@ -1,4 +1,4 @@
-use Rattle.paper.proofs.Kit.{needs, _-_, _≤_, _≡_, refl, sym, _∙_, subst, false, true≢false, arith}
+use Rattle.paper.proofs.Kit.{_-_, _≤_, _≡_, refl, sym, _∙_, subst, false, true≢false, arith}
 use Rattle.paper.specs.Walk.{member}
 use Rattle.structures.specs.Copies.{newsOf}
 use Rattle.structures.proofs.Lists.{news-next, member-end}

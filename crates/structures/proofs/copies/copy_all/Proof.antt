@@ -1,4 +1,4 @@
-use Rattle.paper.proofs.Kit.{needs, _-_, _≤_, _≡_, refl, ap, _∙_, arith, length, getD}
+use Rattle.paper.proofs.Kit.{needs, _-_, _≤_, _≡_, refl, ap, _∙_, arith, length}
 use Rattle.undo.specs.Verdict.{told}
 use Rattle.undo.proofs.Log.{writes-most}
 use Rattle.steps.proofs.Sequence.{alike}

@@ -1,4 +1,4 @@
-use Rattle.paper.proofs.Kit.{arith, needs}
+use Rattle.paper.proofs.Kit.{needs}
 use Rattle.paper.specs.Walk.{erase}
 use Rattle.steps.proofs.Sequence.{any, most}
 use Rattle.undo.proofs.Lines.{reads}

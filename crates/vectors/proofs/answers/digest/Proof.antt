@@ -1,8 +1,5 @@
 -- Invariant: the digest of the cells from c on, begun with h, is the whole one.
-use Prim.Native.Nat.{_-_}
-use mathlib.Core.Path.{_≡_, refl, sym, _∙_}
-use lib.ListN.{length, drop}
-use borrow.Author.Needs.{needs}
+use Rattle.paper.proofs.Kit.{_-_, _≡_, refl, sym, _∙_, length, drop, needs}
 use Rattle.vectors.specs.Lines.{digestFrom}
 use Rattle.vectors.proofs.ListLaws.{digest-turn, digest-none}
 use Rattle.vectors.proofs.answers.digest.Statement.{statement}

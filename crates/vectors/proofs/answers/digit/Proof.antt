@@ -1,4 +1,4 @@
-use borrow.Author.Needs.{needs}
+use Rattle.paper.proofs.Kit.{needs}
 use Rattle.vectors.proofs.answers.digit.Statement.{statement}
 use Rattle.vectors.proofs.answers.digit.Tie as tie
 

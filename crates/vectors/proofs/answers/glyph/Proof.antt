@@ -1,5 +1,4 @@
-use borrow.Author.Needs.{needs}
-use borrow.Author.Tests.{lt-ltb, le-ltb}
+use Rattle.paper.proofs.Kit.{needs, lt-ltb, le-ltb}
 use Rattle.vectors.proofs.answers.glyph.Statement.{statement}
 use Rattle.vectors.proofs.answers.glyph.Tie as tie
 

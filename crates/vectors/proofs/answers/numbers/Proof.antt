@@ -1,6 +1,4 @@
-use Prim.Native.Nat.{_-_}
-use lib.ListN.{length}
-use borrow.Author.Needs.{needs}
+use Rattle.paper.proofs.Kit.{_-_, length, needs}
 use Rattle.vectors.proofs.answers.numbers.Statement.{statement}
 use Rattle.vectors.proofs.answers.numbers.Tie as tie
 

@@ -1,5 +1,4 @@
-use Prim.Native.Nat.{_-_}
-use borrow.Author.Needs.{needs}
+use Rattle.paper.proofs.Kit.{_-_, needs}
 use Rattle.vectors.proofs.answers.regions.Statement.{statement}
 use Rattle.vectors.proofs.answers.regions.Tie as tie
 

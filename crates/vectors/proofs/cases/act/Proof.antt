@@ -1,5 +1,4 @@
-use borrow.Author.Needs.{needs}
-use borrow.Author.Tests.{eq-eqb, ne-eqb}
+use Rattle.paper.proofs.Kit.{needs, eq-eqb, ne-eqb}
 use Rattle.vectors.proofs.cases.act.Statement.{statement}
 use Rattle.vectors.proofs.cases.act.Tie as tie
 

@@ -1,6 +1,4 @@
-use lib.ListN.{List·getD-eq-default}
-use mathlib.Core.Path.{sym}
-use borrow.Author.Needs.{needs}
+use Rattle.paper.proofs.Kit.{List·getD-eq-default, sym, needs}
 use Rattle.vectors.proofs.input.byte.Statement.{statement}
 use Rattle.vectors.proofs.input.byte.Tie as tie
 

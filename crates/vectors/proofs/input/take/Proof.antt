@@ -1,7 +1,4 @@
-use mathlib.Core.Path.{sym}
-use mathlib.Core.Bool.{true≢false}
-use lib.Seq.{length-take-le}
-use borrow.Author.Needs.{needs}
+use Rattle.paper.proofs.Kit.{sym, true≢false, length-take-le, needs}
 use Rattle.vectors.proofs.input.take.Statement.{statement}
 use Rattle.vectors.proofs.input.take.Tie as tie
 
