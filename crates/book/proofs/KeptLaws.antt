@@ -1,5 +1,5 @@
 -- Laws of the locals in two arrays.
-use Rattle.paper.proofs.Kit.{ℕ, zero, suc, _+_, _<_, _≤_, Bool, true, false, _&&_, not, List, [], _∷_, _≡_, refl, ap, _∙_, sym, arith, add-one, eqb}
+use Rattle.paper.proofs.Kit.{_||_, ℕ, zero, suc, _+_, _<_, _≤_, Bool, true, false, _&&_, not, List, [], _∷_, _≡_, refl, ap, _∙_, sym, arith, add-one, eqb}
 use Rattle.paper.proofs.Kit.{length, getD, set, drop, drop-of-length-le, drop-cons}
 use Rattle.paper.specs.Deck.{LocalCell, noLocal, localAt, allWords}
 use Rattle.book.specs.Kept.{localsOf}

@@ -1,5 +1,5 @@
 -- The lines of a loader's block: a part of the book, a change of it, a test. How lines are joined is steps/proofs/Sequence.
-use Rattle.paper.proofs.Kit.{ℕ, _≡_, refl, ap, sym, Bool, true, false, Option, none, some}
+use Rattle.paper.proofs.Kit.{_||_, ℕ, _≡_, refl, ap, sym, Bool, true, false, Option, none, some}
 use Rattle.paper.specs.declared.Fault.{Fault}
 use Rattle.paper.specs.Step.{Step, done, _>>_, ret, refuse, refuseIf, asks, becomes}
 use Rattle.paper.specs.Deck.{Book, Load}

@@ -1,5 +1,5 @@
 -- The lines of a record's block that write.
-use Rattle.paper.proofs.Kit.{ℕ, Bool, true, false, List, [], _∷_, _++_, _≡_, refl, ap, sym, _∙_, subst, Option, none, some, arith, set}
+use Rattle.paper.proofs.Kit.{_||_, ℕ, Bool, true, false, List, [], _∷_, _++_, _≡_, refl, ap, sym, _∙_, subst, Option, none, some, arith, set}
 use Rattle.paper.specs.Cell.{Region, Cell, word, mkWord, H, J}
 use Rattle.paper.specs.declared.Fault.{Fault}
 use Rattle.paper.specs.Step.{_>>_, refuseIf, becomes}

@@ -1,5 +1,5 @@
 -- The table that the loader makes, one region more at a time: 23 letters are enough.
-use Rattle.paper.proofs.Kit.{ℕ, zero, suc, _+_, _<_, _≤_, Bool, true, false, cond, _&&_, List, [], _∷_, _++_, _≡_, refl, ap, sym, _∙_, arith}
+use Rattle.paper.proofs.Kit.{_||_, ℕ, zero, suc, _+_, _<_, _≤_, Bool, true, false, cond, _&&_, List, [], _∷_, _++_, _≡_, refl, ap, sym, _∙_, arith}
 use Rattle.paper.proofs.Kit.{ℕ-discrete, decLt, eq-eqb, leb-true, eqb, leb, length, length-append}
 use Rattle.paper.specs.Limits.{largestN, firstDeck}
 use Rattle.paper.specs.Region.{Region, endOfRegions, isLetter, layout, letterTaken}

@@ -1,5 +1,5 @@
 -- An erasure, of the numbers alone; and that it is one of the store.
-use Rattle.paper.proofs.Kit.{ℕ, _+_, _<_, _≡_, refl, sym, ap, subst, _∙_, Bool, true, false, List, [], _∷_, _≢_, arith, ℕ-discrete, decLt, eqb-true}
+use Rattle.paper.proofs.Kit.{_||_, ℕ, _+_, _<_, _≡_, refl, sym, ap, subst, _∙_, Bool, true, false, List, [], _∷_, _≢_, arith, ℕ-discrete, decLt, eqb-true}
 use Rattle.paper.proofs.Kit.{eqb, length, getD, List·getD-eq-default}
 use Rattle.paper.specs.Cell.{isFree, H, sizeFits}
 use Rattle.paper.specs.Walk.{member}

@@ -1,5 +1,5 @@
 -- The two loops over the cells, turn by turn.
-use Rattle.paper.proofs.Kit.{ℕ, zero, suc, _+_, _-_, _<_, _≤_, Bool, true, false, cond, _&&_, not, and-false, List, _≡_, refl, sym, add-one, arith, eqb}
+use Rattle.paper.proofs.Kit.{_||_, ℕ, zero, suc, _+_, _-_, _<_, _≤_, Bool, true, false, cond, _&&_, not, and-false, List, _≡_, refl, sym, add-one, arith, eqb}
 use Rattle.paper.proofs.Kit.{length, getD, drop, drop-of-length-le, List·getD-map, drop-cons}
 use mir.Val.{boolByte}
 use Rattle.paper.specs.Cell.{Cell, free, word, term, process, zeros, isFree, freeLink}

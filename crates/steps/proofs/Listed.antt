@@ -1,5 +1,5 @@
 -- The list of processes, by the ranges of numbers that a decision names: which entry has them all, or that none has any.
-use Rattle.paper.proofs.Kit.{ℕ, _-_, _<_, _≤_, _≡_, refl, _∙_, _≢_, Bool, true, false, cond, _&&_, List, [], _∷_, Option, none, some, arith, leb-true}
+use Rattle.paper.proofs.Kit.{_||_, ℕ, _-_, _<_, _≤_, _≡_, refl, _∙_, _≢_, Bool, true, false, cond, _&&_, List, [], _∷_, Option, none, some, arith, leb-true}
 use Rattle.paper.proofs.Kit.{ltb-true, eqb-true, le-leb, lt-leb, leb, ltb, eqb}
 use Rattle.paper.specs.declared.Refusal.the-variants.{NotListed}
 use Rattle.paper.specs.Cell.{J}

@@ -1,5 +1,5 @@
 -- Laws of the order and of the table old to new.
-use Rattle.paper.proofs.Kit.{ℕ, zero, suc, _+_, _<_, _≤_, _≡_, refl, sym, ap, _∙_, subst, Bool, true, false, cond, List, [], _∷_, _++_, map, reverse}
+use Rattle.paper.proofs.Kit.{_||_, ℕ, zero, suc, _+_, _<_, _≤_, _≡_, refl, sym, ap, _∙_, subst, Bool, true, false, cond, List, [], _∷_, _++_, map, reverse}
 use Rattle.paper.proofs.Kit.{reverseAux, arith, add-one, length, getD, set, take, drop, drop-of-length-le, take-suc, drop-cons, getD-take, length-take-le}
 use Rattle.paper.proofs.Kit.{getD-set-same, getD-set-other, eqb, eqb-true, eqb-false, ne-eqb}
 use Rattle.paper.specs.Walk.{member, renamed}

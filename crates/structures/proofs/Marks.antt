@@ -1,5 +1,5 @@
 -- Laws of the order and the marks.
-use Rattle.paper.proofs.Kit.{ℕ, zero, suc, _+_, _-_, _<_, _≤_, _≡_, refl, sym, ap, _∙_, subst, Bool, true, false, not, List, [], _∷_, reverse}
+use Rattle.paper.proofs.Kit.{_||_, ℕ, zero, suc, _+_, _-_, _<_, _≤_, _≡_, refl, sym, ap, _∙_, subst, Bool, true, false, not, List, [], _∷_, reverse}
 use Rattle.paper.proofs.Kit.{reverse-append, arith, add-one, length, getD, take, set, replicate, length-replicate, getD-replicate, List·getD-eq-default}
 use Rattle.paper.proofs.Kit.{take-suc, take-suc-set, getD-set-same, getD-set-other, ext-getD, eqb, ltb, eqb-true, eqb-false, ltb-true, ltb-false, not-false}
 use Rattle.paper.specs.Limits.{largestN}

@@ -1,6 +1,6 @@
 -- Laws of a run of the free list: each of its cells is free and leads to one other, so a run whose last cell is none of those before has
 -- no cell twice.
-use Rattle.paper.proofs.Kit.{ℕ, zero, suc, _+_, _-_, _<_, _≡_, refl, sym, ap, _∙_, subst, Bool, true, false, List, [], _∷_, _++_, arith, eqb-true}
+use Rattle.paper.proofs.Kit.{_||_, ℕ, zero, suc, _+_, _-_, _<_, _≡_, refl, sym, ap, _∙_, subst, Bool, true, false, List, [], _∷_, _++_, arith, eqb-true}
 use Rattle.paper.proofs.Kit.{eq-eqb, eqb, length, getD, length-append}
 use Rattle.paper.specs.Cell.{Cell, isFree, freeLink, cellAt}
 use Rattle.paper.specs.Walk.{member}

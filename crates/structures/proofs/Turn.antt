@@ -1,5 +1,5 @@
 -- What the blocks say of one turn: of a walk, of a list that is named, of a chain.
-use Rattle.paper.proofs.Kit.{ℕ, suc, _+_, _<_, _≡_, refl, sym, ap, _∙_, subst, Bool, true, false, cond, not, List, [], _∷_, Option, arith, add-one}
+use Rattle.paper.proofs.Kit.{_||_, ℕ, suc, _+_, _<_, _≡_, refl, sym, ap, _∙_, subst, Bool, true, false, cond, not, List, [], _∷_, Option, arith, add-one}
 use Rattle.paper.proofs.Kit.{length, ltb, eqb, eq-eqb, ne-eqb, lt-ltb, le-ltb}
 use Rattle.paper.specs.declared.Refusal.{Refusal}
 use Rattle.paper.specs.Limits.{firstDeck, deepest}

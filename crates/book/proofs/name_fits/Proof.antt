@@ -5,7 +5,7 @@ use Rattle.paper.specs.declared.Fault.the-variants.{BadName}
 use Rattle.paper.specs.Limits.{firstDeck}
 use Rattle.paper.specs.Region.{cellOf}
 use Rattle.paper.specs.Deck.{nameFits, localAt}
-use Rattle.paper.proofs.Kit.{getD, eqb, ltb, ℕ, Bool, true, false, not, _&&_, or-assoc, _≡_, refl, ap, sym, _∙_, eqb-true, needs}
+use Rattle.paper.proofs.Kit.{_||_, getD, eqb, ltb, ℕ, Bool, true, false, not, _&&_, or-assoc, _≡_, refl, ap, sym, _∙_, eqb-true, needs}
 use Rattle.book.proofs.name_fits.Statement.{statement}
 use Rattle.book.proofs.name_fits.Tie as tie
 
