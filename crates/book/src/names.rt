@@ -3,7 +3,7 @@ ghost use mathlib.Core.Bool.{true, false};
 ghost use mathlib.Core.Path.{_≡_};
 ghost use lib.ListN.{getD, set};
 
-pub fn named(names: &[bool], c: u16) -> bool
+pub(crate) fn named(names: &[bool], c: u16) -> bool
     ensures { λ r. ⌜ r ≡ getD (now (names .entry)) c false ⌝ }
 {
     let i = c as usize;
@@ -13,7 +13,7 @@ pub fn named(names: &[bool], c: u16) -> bool
     false
 }
 
-pub fn mark(names: &mut [bool], c: u16)
+pub(crate) fn mark(names: &mut [bool], c: u16)
     ensures { λ _. ⌜ now (names .exit) ≡ set (now (names .entry)) c true ⌝ }
 {
     let i = c as usize;

@@ -9,7 +9,7 @@ use paper::Symbol;
 use paper::limits;
 
 // Any kind of cell but a process: H1 is preserved, and x put in it.
-pub fn descend(cells: &mut [u64], log: &mut [u64], go: u32, x: Symbol) -> u32
+pub(crate) fn descend(cells: &mut [u64], log: &mut [u64], go: u32, x: Symbol) -> u32
     requires { ⌜ Room (now log) 1 ⌝ }
     ensures { λ r. ⌜ Did Always 1 (descend x) cells log go r moved ⌝ }
 {
@@ -44,7 +44,7 @@ fn go_to(cells: &mut [u64], log: &mut [u64], go: u32, x: Symbol)
 }
 
 // P 7: to x, if H5's symbol is J3.
-pub fn branch(cells: &mut [u64], log: &mut [u64], go: u32, x: Symbol) -> bool
+pub(crate) fn branch(cells: &mut [u64], log: &mut [u64], go: u32, x: Symbol) -> bool
     requires { ⌜ Room (now log) 0 ⌝ }
     ensures { λ r. ⌜ Did Always 0 (branch x) cells log go go (controlOf r) ⌝ }
 {
@@ -57,7 +57,14 @@ pub fn branch(cells: &mut [u64], log: &mut [u64], go: u32, x: Symbol) -> bool
 }
 
 // P 1 to 6, after which control goes on.
-pub fn on_symbol(cells: &mut [u64], log: &mut [u64], go: u32, top: u16, p: u8, x: Symbol) -> u32
+pub(crate) fn on_symbol(
+    cells: &mut [u64],
+    log: &mut [u64],
+    go: u32,
+    top: u16,
+    p: u8,
+    x: Symbol,
+) -> u32
     requires { ⌜ Suits (now log) 2 top × (1 ≤ p) × (p ≤ 6) ⌝ }
     ensures { λ r. ⌜ Did (Top top) 2 (operate p x) cells log go r goesOn ⌝ }
 {
@@ -83,7 +90,7 @@ fn to_link(cells: &mut [u64], log: &mut [u64], go: u32, top: u16, l: u16)
 }
 
 // H1 gets the LINK, unless control has moved.
-pub fn advance(cells: &mut [u64], log: &mut [u64], go: u32, top: u16, l: u16, away: bool)
+pub(crate) fn advance(cells: &mut [u64], log: &mut [u64], go: u32, top: u16, l: u16, away: bool)
     requires { ⌜ Suits (now log) 0 top ⌝ }
     ensures { λ _. ⌜ Did (Top top) 0 (advance l (controlOf away)) cells log go go tt ⌝ }
 {
@@ -107,7 +114,7 @@ fn link_of(cells: &[u64], go: u32, c: u16) -> GotCell
 }
 
 // Step 2.
-pub fn ascend(cells: &mut [u64], log: &mut [u64], go: u32, top: u16) -> u32
+pub(crate) fn ascend(cells: &mut [u64], log: &mut [u64], go: u32, top: u16) -> u32
     requires { ⌜ Suits (now log) 1 top ⌝ }
     ensures { λ r. ⌜ Did (Top top) 1 ascend cells log go r tt ⌝ }
 {

@@ -51,7 +51,7 @@ fn order_in(cells: &[u64], top: u16, c: u16, w: u64) -> Fetched
 }
 
 // "fetch the word H1 names and its LINK"; "A process cell fetched directly does its process; its LINK reads as 0".
-pub fn fetch(cells: &[u64], top: u16, c: u16) -> Fetched
+pub(crate) fn fetch(cells: &[u64], top: u16, c: u16) -> Fetched
     requires { ⌜ firstDeck ≤ top ⌝ }
     ensures { λ r. ⌜ Reads (Top top) (fetch c) cells 0 (r .go) (orderOf r) ⌝ }
 {

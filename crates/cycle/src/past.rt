@@ -22,7 +22,7 @@ fn is_j1(cells: &[u64], go: u32, c: u16) -> bool
 }
 
 // The symbol that is executed in the end. Each J1 pops, so there are more turns than cells.
-pub fn past_j1(cells: &mut [u64], log: &mut [u64], top: u16, x: Symbol) -> GotSymbol
+pub(crate) fn past_j1(cells: &mut [u64], log: &mut [u64], top: u16, x: Symbol) -> GotSymbol
     requires { ⌜ Suits (now log) (length (now cells) + 1) top × (length (now cells) ≤ largestN) ⌝ }
     ensures { λ r. ⌜ Past top x (now (cells .entry)) (now (log .entry)) (now (cells .exit)) (now (log .exit)) r ⌝ }
 {

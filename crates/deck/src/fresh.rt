@@ -81,7 +81,7 @@ fn unmark(names: &mut [bool])
 }
 
 // The book before any word.
-pub fn begin(cells: &mut [u64], names: &mut [bool], regions: Regions) -> Notes
+pub(crate) fn begin(cells: &mut [u64], names: &mut [bool], regions: Regions) -> Notes
     requires { ⌜ Sized (now cells) (now names) ⌝ }
     ensures { λ r. ⌜ (bookOf (held (regionsOf regions) r (now (cells .exit)) (now (names .exit)))
         ≡ freshBook (length (now (cells .entry))) (regionsOf regions)) × AllFormed (now (cells .exit)) ⌝ }
@@ -92,7 +92,7 @@ pub fn begin(cells: &mut [u64], names: &mut [bool], regions: Regions) -> Notes
 }
 
 // "all cells zero"
-pub fn zero(cells: &mut [u64])
+pub(crate) fn zero(cells: &mut [u64])
     ensures { λ _. ⌜ now (cells .exit) ≡ replicate (length (now (cells .entry))) 0 ⌝ }
 {
     let mut i = 0;

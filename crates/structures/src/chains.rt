@@ -77,7 +77,7 @@ fn chain_links(cells: &[u64], order: &mut Order, marks: &mut Marks, head: u16) -
     }
 }
 
-pub fn chain(cells: &[u64], order: &mut Order, marks: &mut Marks, go: u32, c: u16) -> Walked
+pub(crate) fn chain(cells: &[u64], order: &mut Order, marks: &mut Marks, go: u32, c: u16) -> Walked
     requires { ⌜ Clean (now cells) (now order) (now marks) ⌝ }
     ensures { λ r. ⌜ Lists (chainBack c) (now (cells .entry)) go (now (order .exit)) (now (marks .exit)) r ⌝ }
 {

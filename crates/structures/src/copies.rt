@@ -175,7 +175,7 @@ fn copy_all(cells: &mut [u64], log: &mut [u64], order: &Order, marks: &Marks, n:
 }
 
 // The copy of the structure at c: the cell that names it.
-pub fn copy(
+pub(crate) fn copy(
     cells: &mut [u64],
     log: &mut [u64],
     order: &mut Order,

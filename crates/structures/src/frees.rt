@@ -50,7 +50,7 @@ fn release_all(cells: &mut [u64], log: &mut [u64], order: &Order, n: usize, go: 
 }
 
 // The first n cells of the order are freed, unless one is reserved.
-pub fn erase_back(
+pub(crate) fn erase_back(
     cells: &mut [u64],
     log: &mut [u64],
     order: &Order,
@@ -67,7 +67,7 @@ pub fn erase_back(
 }
 
 // The structure at c is erased.
-pub fn erase(
+pub(crate) fn erase(
     cells: &mut [u64],
     log: &mut [u64],
     order: &mut Order,

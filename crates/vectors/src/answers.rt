@@ -7,16 +7,16 @@ use crate::input::byte;
 use paper::LoadAnswer;
 use regions::Regions;
 
-pub fn text(t: &[u8]) {
+pub(crate) fn text(t: &[u8]) {
     io::write_all(1, t);
 }
 
-pub fn number(n: u64) {
+pub(crate) fn number(n: u64) {
     io::print_decimal(1, n);
 }
 
 // The cells in one number: h * 1000003 + w for each, by 1000000007.
-pub fn digest(cells: &[u64]) -> u64
+pub(crate) fn digest(cells: &[u64]) -> u64
     ensures { λ r. ⌜ r ≡ digestFrom 0 (now (cells .entry)) ⌝ }
 {
     let mut h: u64 = 0;
@@ -29,14 +29,14 @@ pub fn digest(cells: &[u64]) -> u64
 }
 
 // The end of a line: the digest of the cells.
-pub fn end(d: u64) {
+pub(crate) fn end(d: u64) {
     text(b" | ");
     number(d);
     text(b"\n");
 }
 
 // The answer of a load, and the offset where it was refused.
-pub fn load(a: LoadAnswer) {
+pub(crate) fn load(a: LoadAnswer) {
     number(a.number() as u64);
     match a {
         LoadAnswer::Broken(_, at) => {
@@ -48,7 +48,7 @@ pub fn load(a: LoadAnswer) {
 }
 
 // "A:12,B:3" in record order.
-pub fn regions(r: Regions) {
+pub(crate) fn regions(r: Regions) {
     let m = r.len();
     if m == 0 {
         text(b"-");
@@ -67,7 +67,7 @@ pub fn regions(r: Regions) {
 // What stands in every cell before a load.
 const SPOILT: u64 = 12297829382473034410;
 
-pub fn spoil(cells: &mut [u64]) {
+pub(crate) fn spoil(cells: &mut [u64]) {
     let mut c = 0;
     while c < cells.len() {
         cells[c] = SPOILT;
@@ -89,7 +89,7 @@ fn untouched(cells: &[u64]) -> bool
 }
 
 // The cells after a load: "1 | N out of range; store untouched".
-pub fn loaded(a: LoadAnswer, cells: &[u64]) {
+pub(crate) fn loaded(a: LoadAnswer, cells: &[u64]) {
     let LoadAnswer::BadSize = a else {
         end(digest(cells));
         return;
@@ -104,7 +104,7 @@ pub fn loaded(a: LoadAnswer, cells: &[u64]) {
 // What stands in the output room before a run.
 const UNWRITTEN: u8 = 238;
 
-pub fn clear(out: &mut [u8]) {
+pub(crate) fn clear(out: &mut [u8]) {
     let mut i = 0;
     while i < out.len() {
         out[i] = UNWRITTEN;
@@ -169,7 +169,7 @@ fn in_hex(out: &[u8], digits: &mut [u8], n: usize) {
 }
 
 // The lines of a run, in hex.
-pub fn lines(out: &[u8], len: usize) {
+pub(crate) fn lines(out: &[u8], len: usize) {
     let mut digits = [0u8; 131072];
     if len == 0 {
         text(b"-");
@@ -213,7 +213,7 @@ fn numbers(cells: &[u16], n: usize) {
 }
 
 // The cells of a walk; past them stand zeros.
-pub fn met(cells: &[u16], n: usize) {
+pub(crate) fn met(cells: &[u16], n: usize) {
     numbers(cells, n);
     if !zeros(cells, n) {
         text(b" past the walk");

@@ -217,7 +217,7 @@ fn read(kind: u8, cells: &mut [u64], bytes: &mut [u8], out: &mut [u8]) -> bool {
 }
 
 // Whether there was a case.
-pub fn next(cells: &mut [u64], bytes: &mut [u8], out: &mut [u8]) -> bool {
+pub(crate) fn next(cells: &mut [u64], bytes: &mut [u8], out: &mut [u8]) -> bool {
     if !input::take(bytes, 1) {
         return false;
     }

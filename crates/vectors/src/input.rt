@@ -8,7 +8,7 @@ ghost use Rattle.vectors.specs.Input.{fourAt, eightAt};
 use regions::Regions;
 
 // The next k bytes of the input, at the start of the buffer: whether there were as many.
-pub fn take(bytes: &mut [u8], k: usize) -> bool
+pub(crate) fn take(bytes: &mut [u8], k: usize) -> bool
     ensures { λ r. ⌜ (r ≡ true → k ≤ length (now (bytes .exit))) ⌝ }
 {
     if k <= bytes.len() {
@@ -18,7 +18,7 @@ pub fn take(bytes: &mut [u8], k: usize) -> bool
 }
 
 // Past the end 0.
-pub fn byte(b: &[u8], at: usize) -> u8
+pub(crate) fn byte(b: &[u8], at: usize) -> u8
     ensures { λ r. ⌜ r ≡ byteAt (now (b .entry)) at ⌝ }
 {
     if at < b.len() {
@@ -41,13 +41,13 @@ fn two(b: &[u8], at: usize) -> usize
     wide(byte(b, at)) * 256 + wide(byte(b, at + 1))
 }
 
-pub fn pair(b: &[u8], at: u16) -> usize
+pub(crate) fn pair(b: &[u8], at: u16) -> usize
     ensures { λ r. ⌜ (r ≡ pairAt (now (b .entry)) at) × (r < 65536) ⌝ }
 {
     two(b, at as usize)
 }
 
-pub fn four(b: &[u8], at: u16) -> u32
+pub(crate) fn four(b: &[u8], at: u16) -> u32
     ensures { λ r. ⌜ r ≡ fourAt (now (b .entry)) at ⌝ }
 {
     let i = at as usize;
@@ -71,7 +71,7 @@ fn put(cells: &mut [u64], c: u16, x: u64) {
 }
 
 // The cells that come next, each read by itself, so that no buffer has to hold them all: whether there were n.
-pub fn cells(bytes: &mut [u8], cells: &mut [u64], n: u16) -> bool {
+pub(crate) fn cells(bytes: &mut [u8], cells: &mut [u64], n: u16) -> bool {
     let mut whole = true;
     let mut c = 0;
     while c < n {
@@ -103,7 +103,7 @@ pub struct Listed {
     pub regions: Regions,
 }
 
-pub fn regions(bytes: &mut [u8]) -> Listed {
+pub(crate) fn regions(bytes: &mut [u8]) -> Listed {
     let counted = take(bytes, 1);
     let n = byte(bytes, 0);
     let whole = take(bytes, wide(n) * 3);
