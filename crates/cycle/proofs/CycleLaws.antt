@@ -1,5 +1,5 @@
 -- Steps 2 and 3 from their parts.
-use Rattle.paper.proofs.Kit.{ℕ, _≤_, _≡_, ap, List, [], eq-eqb, ne-eqb, length, getD}
+use Rattle.paper.proofs.Kit.{ℕ, _≤_, _≡_, List, [], eq-eqb, ne-eqb, length, getD}
 use Rattle.paper.specs.Cell.{H, Word}
 use Rattle.paper.specs.Act.{own}
 use Rattle.paper.specs.Cycle.{ascend, interpret, cycle}

@@ -1,10 +1,10 @@
 -- `execute` past all J1: a refusal, a process by its family, or a descent.
-use Rattle.paper.proofs.Kit.{ℕ, _+_, _-_, _<_, _≤_, _≡_, refl, sym, ap, _∙_, subst, _≢_, true, false, true≢false, Option, none, some}
-use Rattle.paper.proofs.Kit.{List, [], arith, eq-eqb, length, getD}
+use Rattle.paper.proofs.Kit.{ℕ, _+_, _-_, _<_, _≤_, _≡_, refl, sym, ap, _∙_, subst, _≢_, true, false, true≢false, Option, none, some, List, [], arith, eq-eqb}
+use Rattle.paper.proofs.Kit.{length, getD}
 use Rattle.paper.specs.declared.Refusal.{Refusal}
 use Rattle.paper.specs.declared.Symbol.{Symbol}
 use Rattle.paper.specs.Cell.{Cell, State, J, isProcess}
-use Rattle.paper.specs.Act.{Act, done, _>>=_, _>>_, ret, refuse, ifThen, touch, notOwn}
+use Rattle.paper.specs.Act.{Act, done, _>>_, ret, refuse, ifThen, touch, notOwn}
 use Rattle.paper.proofs.Handed.{when-done}
 use Rattle.paper.proofs.ReadLaws.{r-touch}
 use Rattle.paper.specs.Process.{then as andThen, goesOn, perform}

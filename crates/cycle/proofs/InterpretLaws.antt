@@ -1,6 +1,5 @@
 -- Step 3 from its parts: nothing is done where the fetch was refused; else the operation, and then the LINK.
-use Rattle.paper.proofs.Kit.{ℕ, _<_, _≤_, _≡_, sym, ap, _∙_, List, [], arith, length, getD}
-use Rattle.paper.specs.Act.{_>>=_}
+use Rattle.paper.proofs.Kit.{ℕ, _<_, _≤_, _≡_, sym, List, [], arith, length, getD}
 use Rattle.paper.specs.Cycle.{Control, operate, advance, interpret}
 use Rattle.steps.specs.Follows.{Follows}
 use Rattle.steps.proofs.Sequence.{bind, alike, most, from-is, undone}

@@ -1,5 +1,5 @@
 -- Step 3 in two parts, what is to be done and doing it, is step 3.
-use Rattle.paper.proofs.Kit.{ℕ, _≡_, refl, sym, ap, _∙_, Bool, true, false, eqb}
+use Rattle.paper.proofs.Kit.{ℕ, _≡_, refl, ap, _∙_, Bool, true, false, eqb}
 use Rattle.paper.specs.declared.Refusal.the-variants.{WrongKind}
 use Rattle.paper.specs.declared.Symbol.{Symbol}
 use Rattle.paper.specs.Cell.{Cell, Word, regional, isTerm, isProcess, wordIn}

@@ -1,9 +1,8 @@
 -- Laws of a part of a cycle: one that prints nothing, one before or after another.
-use Rattle.paper.proofs.Kit.{ℕ, _-_, _≤_, _≡_, refl, sym, ap, subst, _∙_, Option, none, List, [], arith, length, getD, paste}
-use Rattle.paper.proofs.Kit.{paste-zero}
+use Rattle.paper.proofs.Kit.{ℕ, _-_, _≤_, _≡_, refl, sym, ap, subst, _∙_, Option, none, List, [], arith, length, getD, paste, paste-zero}
 use Rattle.paper.specs.declared.Refusal.{Refusal}
 use Rattle.paper.specs.Cell.{Region}
-use Rattle.paper.specs.Act.{Act, _>>=_}
+use Rattle.paper.specs.Act.{Act}
 use Rattle.cells.specs.Bridge.{Rest}
 use Rattle.steps.specs.Follows.{Follows}
 use Rattle.steps.proofs.Sequence.{most, from-is}

@@ -30,8 +30,8 @@ use Rattle.deck.specs.declared.Placed.{Placed}
 use Rattle.deck.specs.Load.{outcomeOf, tableOf, Made, PlacesIn, AllLettered, Ends}
 use Rattle.deck.proofs.FreshLaws.{set-below}
 use Rattle.deck.proofs.TableLaws.{made-none}
-use Rattle.deck.proofs.ReadLaws.{Reached, at-start, ran-out, broke, last-one, next-one, closed, not-closed, whole, was-whole}
-use Rattle.deck.proofs.ReadLaws.{not-written, is-done, is-refused}
+use Rattle.deck.proofs.ReadLaws.{Reached, at-start, ran-out, broke, last-one, next-one, closed, not-closed, whole, was-whole, not-written, is-done}
+use Rattle.deck.proofs.ReadLaws.{is-refused}
 
 -- at the head of the loop, of n cells: no refusal yet; `last`: the start has come, and reading ends here
 pub record Stands (deck : List ℕ) (n : ℕ) (s : List ℕ) (m : List Bool) (r : Regions) (k : Notes) (go : ℕ) (last : Bool) (at : ℕ) : Type 0 where

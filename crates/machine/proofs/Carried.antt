@@ -6,8 +6,8 @@ use Rattle.paper.specs.declared.Refusal.{Refusal}
 use Rattle.paper.specs.declared.RunAnswer.{RunAnswer}
 use Rattle.paper.specs.declared.RunAnswer.the-variants.{Finished, BadSize, BudgetSpent, NotSound, Refused}
 use Rattle.paper.specs.Cell.{State, sizeFits}
-use Rattle.paper.specs.declared.Refusal.the-variants.{CellZero, FreeCell, WrongKind, NotToBeFreed, NothingBelow, NoFreeCell, OwnCell}
-use Rattle.paper.specs.declared.Refusal.the-variants.{NotListed, OutOfRange, NoRoom, BadWalk}
+use Rattle.paper.specs.declared.Refusal.the-variants.{CellZero, FreeCell, WrongKind, NotToBeFreed, NothingBelow, NoFreeCell, OwnCell, NotListed, OutOfRange}
+use Rattle.paper.specs.declared.Refusal.the-variants.{NoRoom, BadWalk}
 use Rattle.paper.specs.Limits.{largestBudget}
 use Rattle.paper.specs.Answer.{runNumber, refusalNumber}
 use Rattle.paper.specs.Act.{Res, done, refused}

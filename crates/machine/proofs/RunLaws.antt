@@ -1,6 +1,6 @@
 -- A run by what its cycles came to.
-use Rattle.paper.proofs.Kit.{ℕ, zero, suc, _+_, _-_, _<_, _≤_, _≡_, refl, sym, ap, subst, _∙_, Bool, true, false, _&&_, leb, lt-leb, le-leb, List}
-use Rattle.paper.proofs.Kit.{[], _++_, some, arith, length, take, drop, take-append-drop, length-take-le, drop-drop}
+use Rattle.paper.proofs.Kit.{ℕ, zero, suc, _+_, _-_, _<_, _≤_, _≡_, refl, sym, ap, _∙_, Bool, true, false, _&&_, leb, lt-leb, le-leb, List, [], _++_, some}
+use Rattle.paper.proofs.Kit.{arith, length, take, drop, take-append-drop, length-take-le, drop-drop}
 use Rattle.paper.specs.declared.Refusal.{Refusal}
 use Rattle.paper.specs.declared.RunAnswer.{RunAnswer}
 use Rattle.paper.specs.declared.RunAnswer.the-variants.{Finished, BadSize, BudgetSpent, NotSound, Refused}

@@ -9,12 +9,12 @@ use Rattle.paper.specs.declared.LoadAnswer.the-variants.{Loaded, BadSize
 use Rattle.paper.specs.Answer.{runNumber, loadNumber}
 use Rattle.paper.specs.Cell.{word, zeros}
 use Rattle.paper.specs.Deck.{LoadOutcome, load}
-use Rattle.paper.specs.Print.{digits}
+use Rattle.paper.specs.Print.{digits, feedByte}
 use Rattle.paper.specs.Run.{Outcome, run}
 
 -- "the answer number in decimal and a line feed"
 abbrev pub answerLine : ℕ → List ℕ
-answerLine n = digits n ++ (10 ∷ [])
+answerLine n = digits n ++ (feedByte ∷ [])
 
 -- "prints its lines, then the answer number"
 abbrev pub ranText : Outcome → List ℕ

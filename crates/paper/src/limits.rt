@@ -1,4 +1,4 @@
-// The numbers of document 01 that bound something, as specs/Limits has them, and the cells that the machine names.
+// The numbers of document 01 and of CR 3 that bound something, as specs/Limits has them, and the cells that the machine names.
 
 // "N from 256 to 16,384."
 pub const SMALLEST_N: usize = 256;
@@ -35,8 +35,16 @@ pub const PROGRAM_ROOM: usize = 16384;
 // The letters of deck regions: all but H, W and J.
 pub const MANY_REGIONS: usize = 23;
 
-// The longest line with its line feed: `-` and ten digits.
-pub const LONGEST_LINE: usize = 12;
+// Five digits are enough for the number of a cell, ten for any number of 32 bits.
+pub const CELL_DIGITS: usize = 5;
+
+pub const MOST_DIGITS: usize = 10;
+
+// The longest line of a symbol: `9-`, the number of a cell, a line feed.
+pub const LONGEST_SYMBOL_LINE: usize = 2 + CELL_DIGITS + 1;
+
+// The longest line of all, an integer's: `-`, its digits, a line feed.
+pub const LONGEST_LINE: usize = 1 + MOST_DIGITS + 1;
 
 // The program prints its lines and the answer's.
 pub const LONGEST_PRINTOUT: usize = PROGRAM_ROOM + LONGEST_LINE;

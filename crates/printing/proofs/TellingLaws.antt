@@ -1,5 +1,5 @@
 -- The laws of the world of what prints: what does not print, the printing itself, and a refusal, which has no line.
-use Rattle.paper.proofs.Kit.{ℕ, suc, _-_, _≡_, refl, ap, _∙_, sym, subst, Bool, true, false, List, [], _∷_, _++_, Option, none, some, arith, eqb, ltb, length}
+use Rattle.paper.proofs.Kit.{ℕ, suc, _-_, _≡_, refl, ap, _∙_, subst, Bool, true, false, List, [], _∷_, _++_, Option, none, some, arith, ltb, length}
 use Rattle.paper.proofs.Kit.{length-append}
 use Rattle.paper.specs.declared.Refusal.{Refusal}
 use Rattle.paper.specs.declared.Refusal.the-variants.{NoRoom}
@@ -8,7 +8,7 @@ use Rattle.paper.specs.Limits.{firstDeck}
 use Rattle.paper.specs.Region.{Region, endOfRegions}
 use Rattle.paper.specs.Cell.{State}
 use Rattle.paper.specs.Act.{Act, done, _>>_, ret, refuse, refuseIf, asks, becomes, pop}
-use Rattle.paper.specs.Print.{withLine, printLine, digits, cellText, symbolText}
+use Rattle.paper.specs.Print.{withLine, printLine, symbolText}
 use Rattle.cells.specs.Bridge.{Rest, stateOf}
 use Rattle.steps.specs.Follows.{left, Follows}
 use Rattle.steps.specs.Follows as steps
@@ -34,8 +34,7 @@ quietly-sees t w d = record { is = λ e h. d .is (after e t) (w e h) }
 -- the text of a symbol is that of the regions that the table tells
 pub text-told : {t : List ℕ} {rs : List Region} (x : Symbol) → Tells t rs → symbolText rs x ≡ symbolText (rowsOf t) x
 unfolding symbolText
-text-told x k =
-    ap (λ (o : Option (ℕ × ℕ)). elim (eqb (x .tag) 0) as (λ _. List ℕ) [ true ↦ cellText (x .num) o | false ↦ digits (x .num) ]) (sym (k .names (x .num)))
+text-told x k = rw (k .names (x .num), symbolText)
 
 pub symbol-told : {K : Heard → Type 0} {t : List ℕ} {rs : List Region} {s l : List ℕ} (x : Symbol) (u : List ℕ) → Tells t rs
     → ((e : Heard) → K e → e .regions ≡ rs) → steps.Sees telling K (asks (λ s. symbolText (s .regions) x)) ((s, l), u) (symbolText (rowsOf t) x)

@@ -1,10 +1,13 @@
 -- Writing the text of a line: one byte after another, digits, the names of cells; and a line that is copied out.
-use Rattle.paper.proofs.Kit.{ℕ, zero, suc, _+_, _-_, _/_, _%_, _^_, _<_, _≤_, _≡_, refl, ap, _∙_, sym, subst, _≢_, Bool, true, false, Option, none, some}
-use Rattle.paper.proofs.Kit.{List, [], _∷_, _++_, append-assoc, append-nil, arith, add-one, lt-ltb, le-ltb, eq-eqb, ne-eqb, ltb, length, getD, take, drop}
-use Rattle.paper.proofs.Kit.{set, length-append, length-set, take-suc-set, paste, paste-suc}
+use Rattle.paper.proofs.Kit.{ℕ, zero, suc, _+_, _-_, _/_, _%_, _^_, _<_, _≤_, _≡_, refl, ap, _∙_, sym, subst, _≢_, Option, none, some, List, [], _∷_, _++_}
+use Rattle.paper.proofs.Kit.{append-assoc, append-nil, arith, add-one, lt-ltb, le-ltb, eq-eqb, ne-eqb, length, getD, take, drop, set, length-append}
+use Rattle.paper.proofs.Kit.{length-set, take-suc-set, paste, paste-suc}
 use Rattle.paper.specs.declared.Symbol.{Symbol}
+use Rattle.paper.specs.Step.{choose}
 use Rattle.paper.specs.Region.{Region, lettersOf}
-use Rattle.paper.specs.Print.{digitsBy, digits, integerText, cellText, symbolText}
+use Rattle.paper.specs.Limits.{cellDigits, longestSymbolLine}
+use Rattle.paper.specs.Print.{nineByte, minusByte, digitsBy, digits, integerText, cellText, localText, symbolText}
+use Rattle.paper.proofs.LineLaws.{digits-length, cell-digits}
 use Rattle.cells.specs.Layout.{valueOf}
 use Rattle.cells.proofs.Laws.{value-low, value-high}
 use Rattle.regions.specs.declared.Named.{Named}
@@ -17,6 +20,10 @@ writes-none l at = record { text = sym (append-nil (take at l)); end = omega ari
 
 pub writes-one : (l : List ℕ) (at b : ℕ) → at < length l → Writes l at (b ∷ []) (set l at b) (at + 1)
 writes-one l at b h = record { text = rw add-one (take-suc-set l at b h); end = refl; sized = length-set l at b }
+
+-- a byte that is set leaves the length
+pub set-holds : {n : ℕ} (l : List ℕ) (i b : ℕ) → n ≤ length l → n ≤ length (set l i b)
+set-holds l i b h = omega (arith, length-set l i b)
 
 pub writes-more : {l l₁ l₂ : List ℕ} {at m r : ℕ} {t u : List ℕ} → Writes l at t l₁ m → Writes l₁ m u l₂ r → Writes l at (t ++ u) l₂ r
 writes-more {l} {at = at} {t = t} {u = u} p q =
@@ -45,16 +52,6 @@ unfolding digitsBy
 digits-more zero n z h = absurd (z refl)
 digits-more (suc k) n z h = let p : suc k - 1 ≡ k = omega arith in rw (le-ltb n 10 h, p, digitsBy)
 
-pub digits-length : (k n : ℕ) → length (digitsBy k n) ≤ k
-unfolding digitsBy
-digits-length zero n = omega arith
-digits-length (suc k) n = go (ltb n 10) (digits-length k (n / 10))
-  where
-    go : (b : Bool) → length (digitsBy k (n / 10)) ≤ k
-        → length {A = ℕ} (elim b as (λ _. List ℕ) [ true ↦ (48 + n) ∷ [] | false ↦ digitsBy k (n / 10) ++ ((48 + (n % 10)) ∷ []) ]) ≤ suc k
-    go true h = omega arith
-    go false h = rw length-append (omega arith)
-
 -- a text: another that is the same, or from the same line; the digits of a number, alone or after a byte
 pub text-as : {l l′ : List ℕ} {r : ℕ} {t u : List ℕ} → t ≡ u → Text l t l′ r → Text l u l′ r
 text-as {l} {l′} {r} p w = subst (λ t. Text l t l′ r) p w
@@ -62,11 +59,22 @@ text-as {l} {l′} {r} p w = subst (λ t. Text l t l′ r) p w
 pub text-from : {k l l′ : List ℕ} {r : ℕ} {t : List ℕ} → l ≡ k → Text l t l′ r → Text k t l′ r
 text-from {l′ = l′} {r = r} {t = t} p w = subst (λ l. Text l t l′ r) p w
 
-pub text-number : {l l′ : List ℕ} {r : ℕ} (n : ℕ) → Writes l 0 (digits n) l′ r → Text l (digits n) l′ r
-text-number n w = record { writes = w; short = omega (arith, w .end, digits-length 10 n) }
+pub text-digits : {l l′ : List ℕ} {r : ℕ} (k n : ℕ) → k < length l → Writes l 0 (digitsBy k n) l′ r → Text l (digitsBy k n) l′ r
+text-digits k n h w = record { writes = w; short = omega (arith, w .end, w .sized, digits-length k n) }
 
-pub text-lettered : {l l′ : List ℕ} {r : ℕ} (b n : ℕ) → 0 < length l → Writes (set l 0 b) 1 (digits n) l′ r → Text l (b ∷ digits n) l′ r
-text-lettered {l} b n h w = record { writes = writes-more (writes-one l 0 b h) w; short = omega (arith, w .end, digits-length 10 n) }
+pub text-lettered : {l l′ : List ℕ} {r : ℕ} (b k n : ℕ) → k + 1 < length l → Writes (set l 0 b) 1 (digitsBy k n) l′ r → Text l (b ∷ digitsBy k n) l′ r
+text-lettered {l} b k n h w =
+    let v = writes-more (writes-one l 0 b (omega arith)) w in
+    record { writes = v; short = omega (arith, w .end, v .sized, digits-length k n) }
+
+pub text-local : {l l′ : List ℕ} {r c : ℕ} (n : ℕ) → length l ≡ longestSymbolLine → (n ≡ c) × (n < 10 ^ cellDigits)
+    → Writes (set (set l 0 nineByte) 1 minusByte) 2 (digitsBy cellDigits n) l′ r → Text l (localText c) l′ r
+text-local {l} n h e w =
+    let first = writes-one l 0 nineByte (omega arith) in
+    let second = writes-one (set l 0 nineByte) 1 minusByte (omega (arith, first .sized)) in
+    let v = writes-more first (writes-more second w) in
+    let same = ap (λ (t : List ℕ). nineByte ∷ minusByte ∷ t) (cell-digits n (e .1) ∙ ap digits (e .0)) in
+    record { writes = writes-as same v; short = omega (arith, w .end, v .sized, digits-length cellDigits n) }
 
 -- an integer from its excess
 pub integer-low : (v : ℕ) → v < 2 ^ 31 → 45 ∷ digits (2 ^ 31 - v) ≡ integerText (valueOf v)
@@ -78,23 +86,31 @@ pub integer-high : (v : ℕ) → 2 ^ 31 ≤ v → digits (v - 2 ^ 31) ≡ intege
 integer-high v h = sym (ap integerText (value-high v h))
 
 -- a cell by what the table says of it
-pub text-named : {m : Named} {o : Option (ℕ × ℕ)} {b n k : ℕ} (c : ℕ) → lettersIn m ≡ o → m ≡ As b n → k ≡ n → b ∷ digits k ≡ cellText c o
+pub text-named : {m : Named} {o : Option (ℕ × ℕ)} {b n k : ℕ} (c : ℕ) → lettersIn m ≡ o → m ≡ As b n → (k ≡ n) × (k < 10 ^ cellDigits)
+    → b ∷ digitsBy cellDigits k ≡ cellText c o
 unfolding cellText
-text-named {o = o} {b = b} {n = n} c p e h = let q : o ≡ some (b, n) = sym p ∙ ap lettersIn e in rw (q, h)
+text-named {o = o} {b = b} {n = n} {k = k} c p e h =
+    let q : o ≡ some (b, n) = sym p ∙ ap lettersIn e in
+    rw (q, ← (h .0), cell-digits k (h .1))
 
-pub text-unnamed : {m : Named} {o : Option (ℕ × ℕ)} {k : ℕ} (c : ℕ) → lettersIn m ≡ o → m ≡ Nothing → k ≡ c → digits k ≡ cellText c o
+pub text-unnamed : {m : Named} {o : Option (ℕ × ℕ)} {k : ℕ} (c : ℕ) → lettersIn m ≡ o → m ≡ Nothing → (k ≡ c) × (k < 10 ^ cellDigits)
+    → digitsBy cellDigits k ≡ cellText c o
 unfolding cellText
-text-unnamed {o = o} c p e h = let q : o ≡ none = sym p ∙ ap lettersIn e in rw (q, h)
+text-unnamed {o = o} {k = k} c p e h = let q : o ≡ none = sym p ∙ ap lettersIn e in rw (q) (cell-digits k (h .1) ∙ ap digits (h .0))
 
 -- a symbol, by its tag
 module _ (rs : List Region) (x : Symbol) where
-  pub symbol-regional : x .tag ≡ 0 → cellText (x .num) (lettersOf rs (x .num)) ≡ symbolText rs x
-  unfolding symbolText
-  symbol-regional h = rw (symbolText, eq-eqb (x .tag) 0 h)
+  pub symbol-local : x .tag ≡ 2 → localText (x .num) ≡ symbolText rs x
+  unfolding symbolText choose
+  symbol-local h = rw (symbolText, eq-eqb (x .tag) 2 h, choose)
 
-  pub symbol-other : {n : ℕ} → x .tag ≢ 0 → n ≡ x .num → digits n ≡ symbolText rs x
-  unfolding symbolText
-  symbol-other z e = rw (e, symbolText, ne-eqb (x .tag) 0 z)
+  pub symbol-regional : x .tag ≢ 2 → x .tag ≡ 0 → cellText (x .num) (lettersOf rs (x .num)) ≡ symbolText rs x
+  unfolding symbolText choose
+  symbol-regional l h = rw (symbolText, ne-eqb (x .tag) 2 l, eq-eqb (x .tag) 0 h, choose)
+
+  pub symbol-other : {n : ℕ} → x .tag ≢ 2 → x .tag ≢ 0 → (n ≡ x .num) × (n < 10 ^ cellDigits) → digitsBy cellDigits n ≡ symbolText rs x
+  unfolding symbolText choose
+  symbol-other {n} l z e = rw (symbolText, ne-eqb (x .tag) 2 l, ne-eqb (x .tag) 0 z, choose) (cell-digits n (e .1) ∙ ap digits (e .0))
 
 -- a line copied out, byte by byte
 pub paste-more : (d : List ℕ) (at : ℕ) (s : List ℕ) (j : ℕ) {l : List ℕ} → at + j < length d → j < length s → l ≡ paste d at s j

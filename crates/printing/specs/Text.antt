@@ -1,5 +1,5 @@
 -- Bytes that are written into a line.
-use Prim.Native.Nat.{ℕ, _+_, _≤_}
+use Prim.Native.Nat.{ℕ, _+_, _<_}
 use mathlib.Core.Path.{_≡_}
 use mathlib.Core.List.{List, _++_}
 use lib.ListN.{length, take, drop}
@@ -10,10 +10,10 @@ pub record Writes (l : List ℕ) (at : ℕ) (t : List ℕ) (l′ : List ℕ) (r 
   pub end : r ≡ at + length t
   pub sized : length l′ ≡ length l
 
--- the text of a line, from its start: a letter or a sign, and ten digits at most
+-- the text of a line, from its start, with place left for the line feed
 pub record Text (l t l′ : List ℕ) (r : ℕ) : Type 0 where
   pub writes : Writes l 0 t l′ r
-  pub short : r ≤ 11
+  pub short : r < length l′
 
 -- t stands in d from `at` on, up to r; the other bytes are as they were
 pub record Puts (d : List ℕ) (at : ℕ) (t : List ℕ) (d′ : List ℕ) (r : ℕ) : Type 0 where

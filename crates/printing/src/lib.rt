@@ -1,12 +1,12 @@
 // Printing: the text of a line, J152 and J153. A line goes to the output, line feed included, once nothing of its process can be refused.
 ghost use mathlib.Core.Path.{_≡_};
 ghost use mathlib.Core.List.{[], _∷_};
-ghost use Prim.Native.Nat.{_+_, _<_, _≤_};
+ghost use Prim.Native.Nat.{_+_, _^_, _<_, _≤_};
 ghost use lib.ListN.{length, take};
 ghost use lib.Seq.{paste};
-ghost use Rattle.paper.specs.Limits.{longestLine};
+ghost use Rattle.paper.specs.Limits.{cellDigits, longestSymbolLine, longestLine};
 ghost use Rattle.paper.specs.Region.{lettersOf};
-ghost use Rattle.paper.specs.Print.{digits, digitsBy, integerText, cellText, symbolText};
+ghost use Rattle.paper.specs.Print.{digitsBy, integerText, cellText, localText, symbolText};
 ghost use Rattle.paper.specs.Program.{answerLine};
 ghost use Rattle.paper.specs.Process.{J152, J153, perform, then as andThen, goesOn};
 ghost use Rattle.cells.specs.Layout.{valueOf};
@@ -19,27 +19,22 @@ use paper::limits;
 use regions::Named;
 use regions::Table;
 
-// The scratch for a line.
-type Line = [u8; limits::LONGEST_LINE];
-
-// Ten digits are enough for any number of 32 bits.
-const MOST_DIGITS: usize = 10;
-
 // The verdict, and where the output ends.
 pub struct Printed {
     pub go: u32,
     pub end: usize,
 }
 
+// Five digits are enough for a number of 16 bits.
 fn wide(x: u16) -> u32
-    ensures { λ r. ⌜ r ≡ x ⌝ }
+    ensures { λ r. ⌜ (r ≡ x) × (r < 10 ^ cellDigits) ⌝ }
 {
     x as u32
 }
 
-// The last k decimal digits of n, with no zeros before them.
-fn digits(line: &mut Line, at: usize, k: usize, n: u32) -> usize
-    requires { ⌜ (length (now line) ≡ longestLine) × (at + k ≤ longestLine) ⌝ }
+// The decimal digits of n, or where k are too few its last k.
+fn digits(line: &mut [u8], at: usize, k: usize, n: u32) -> usize
+    requires { ⌜ at + k ≤ length (now line) ⌝ }
     ensures { λ r. ⌜ Writes (now (line .entry)) at (digitsBy k n) (now (line .exit)) r ⌝ }
 {
     if k == 0 {
@@ -55,59 +50,72 @@ fn digits(line: &mut Line, at: usize, k: usize, n: u32) -> usize
 }
 
 // A number alone.
-fn number(line: &mut Line, n: u32) -> usize
-    requires { ⌜ length (now line) ≡ longestLine ⌝ }
-    ensures { λ r. ⌜ Text (now (line .entry)) (digits n) (now (line .exit)) r ⌝ }
+fn number(line: &mut [u8], k: usize, n: u32) -> usize
+    requires { ⌜ k < length (now line) ⌝ }
+    ensures { λ r. ⌜ Text (now (line .entry)) (digitsBy k n) (now (line .exit)) r ⌝ }
 {
-    digits(line, 0, MOST_DIGITS, n)
+    digits(line, 0, k, n)
 }
 
 // A letter or a sign, then a number.
-fn lettered(line: &mut Line, letter: u8, n: u32) -> usize
-    requires { ⌜ length (now line) ≡ longestLine ⌝ }
-    ensures { λ r. ⌜ Text (now (line .entry)) (letter ∷ digits n) (now (line .exit)) r ⌝ }
+fn lettered(line: &mut [u8], letter: u8, k: usize, n: u32) -> usize
+    requires { ⌜ k + 1 < length (now line) ⌝ }
+    ensures { λ r. ⌜ Text (now (line .entry)) (letter ∷ digitsBy k n) (now (line .exit)) r ⌝ }
 {
     line[0] = letter;
-    digits(line, 1, MOST_DIGITS, n)
+    digits(line, 1, k, n)
 }
 
 // The integer v - 2^31.
-fn integer_text(line: &mut Line, v: u32) -> usize
+fn integer_text(line: &mut [u8], v: u32) -> usize
     requires { ⌜ length (now line) ≡ longestLine ⌝ }
     ensures { λ r. ⌜ Text (now (line .entry)) (integerText (valueOf v)) (now (line .exit)) r ⌝ }
 {
     if v < cells::ZERO {
-        return lettered(line, b'-', cells::ZERO - v);
+        return lettered(line, b'-', limits::MOST_DIGITS, cells::ZERO - v);
     }
-    number(line, v - cells::ZERO)
+    number(line, limits::MOST_DIGITS, v - cells::ZERO)
 }
 
 // A cell by its letter and number, or by its number alone.
-fn cell_text(line: &mut Line, table: &Table, c: u16) -> usize
-    requires { ⌜ length (now line) ≡ longestLine ⌝ }
+fn cell_text(line: &mut [u8], table: &Table, c: u16) -> usize
+    requires { ⌜ length (now line) ≡ longestSymbolLine ⌝ }
     ensures { λ r. ⌜ Text (now (line .entry)) (cellText c (lettersOf (rowsOf (now (table .entry))) c)) (now (line .exit)) r ⌝ }
 {
     let x = regions::letters_of(table, c);
     match x {
-        Named::As(letter, n) => lettered(line, letter, wide(n)),
-        Named::Nothing => number(line, wide(c)),
+        Named::As(letter, n) => lettered(line, letter, limits::CELL_DIGITS, wide(n)),
+        Named::Nothing => number(line, limits::CELL_DIGITS, wide(c)),
     }
 }
 
-// "region letter and number if the tag is 0 and the cell reserved, else decimal digits"
-fn symbol_text(line: &mut Line, table: &Table, x: Symbol) -> usize
-    requires { ⌜ length (now line) ≡ longestLine ⌝ }
+// "`9-` and its number"
+fn local_text(line: &mut [u8], c: u16) -> usize
+    requires { ⌜ length (now line) ≡ longestSymbolLine ⌝ }
+    ensures { λ r. ⌜ Text (now (line .entry)) (localText c) (now (line .exit)) r ⌝ }
+{
+    line[0] = b'9';
+    line[1] = b'-';
+    digits(line, 2, limits::CELL_DIGITS, wide(c))
+}
+
+// A symbol by its tag: local; regional; internal.
+fn symbol_text(line: &mut [u8], table: &Table, x: Symbol) -> usize
+    requires { ⌜ length (now line) ≡ longestSymbolLine ⌝ }
     ensures { λ r. ⌜ Text (now (line .entry)) (symbolText (rowsOf (now (table .entry))) x) (now (line .exit)) r ⌝ }
 {
+    if x.tag == Symbol::LOCAL {
+        return local_text(line, x.num);
+    }
     if x.tag == Symbol::REGIONAL {
         return cell_text(line, table, x.num);
     }
-    number(line, wide(x.num))
+    number(line, limits::CELL_DIGITS, wide(x.num))
 }
 
 // "then one line feed"
-fn end_line(line: &mut Line, at: usize) -> usize
-    requires { ⌜ (length (now line) ≡ longestLine) × (at < longestLine) ⌝ }
+fn end_line(line: &mut [u8], at: usize) -> usize
+    requires { ⌜ at < length (now line) ⌝ }
     ensures { λ r. ⌜ Writes (now (line .entry)) at (10 ∷ []) (now (line .exit)) r ⌝ }
 {
     line[at] = b'\n';
@@ -115,8 +123,8 @@ fn end_line(line: &mut Line, at: usize) -> usize
 }
 
 // The line goes out, from byte `at` on.
-fn write_line(out: &mut [u8], at: usize, line: &Line, len: usize) -> usize
-    requires { ⌜ (at + len ≤ length (now out)) × (length (now line) ≡ longestLine) × (len ≤ longestLine) ⌝ }
+fn write_line(out: &mut [u8], at: usize, line: &[u8], len: usize) -> usize
+    requires { ⌜ (at + len ≤ length (now out)) × (len ≤ length (now line)) ⌝ }
     ensures { λ r. ⌜ (r ≡ at + len) × (now (out .exit) ≡ paste (now (out .entry)) at (now (line .entry)) len) ⌝ }
 {
     let mut i = 0;
@@ -132,8 +140,8 @@ pub fn number_line(out: &mut [u8], at: usize, n: u32) -> usize
     requires { ⌜ at + longestLine ≤ length (now out) ⌝ }
     ensures { λ r. ⌜ Puts (now (out .entry)) at (answerLine n) (now (out .exit)) r ⌝ }
 {
-    let mut line: Line = [0; limits::LONGEST_LINE];
-    let end = number(&mut line, n);
+    let mut line = [0u8; limits::LONGEST_LINE];
+    let end = number(&mut line, limits::MOST_DIGITS, n);
     let len = end_line(&mut line, end);
     write_line(out, at, &line, len)
 }
@@ -146,10 +154,10 @@ fn print(
     out: &mut [u8],
     at: usize,
     go: u32,
-    line: &mut Line,
+    line: &mut [u8],
     n: usize,
 ) -> Printed
-    requires { ⌜ Room (now log) 1 × Told (now table) × (at ≤ length (now out)) × (length (now line) ≡ longestLine) × (n < longestLine) ⌝ }
+    requires { ⌜ Room (now log) 1 × Told (now table) × (at ≤ length (now out)) × (n < length (now line)) ⌝ }
     ensures { λ r. ⌜ Prints (printPop (take n (now (line .entry)))) cells log table out at go r tt ⌝ }
 {
     let len = end_line(line, n);
@@ -178,7 +186,7 @@ fn j152(
     ensures { λ r. ⌜ Prints J152 cells log table out at go r tt ⌝ }
 {
     let w = acts::own(cells, limits::H0);
-    let mut line: Line = [0; limits::LONGEST_LINE];
+    let mut line = [0u8; limits::LONGEST_SYMBOL_LINE];
     let n = symbol_text(&mut line, table, cells::symbol(w));
     print(cells, log, table, out, at, go, &mut line, n)
 }
@@ -197,7 +205,7 @@ fn j153(
 {
     let w = acts::own(cells, limits::H0);
     let i = acts::integer_at(cells, go, (w / cells::SYMB % 65536) as u16);
-    let mut line: Line = [0; limits::LONGEST_LINE];
+    let mut line = [0u8; limits::LONGEST_LINE];
     let n = integer_text(&mut line, i.v);
     print(cells, log, table, out, at, i.go, &mut line, n)
 }

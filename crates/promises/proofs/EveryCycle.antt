@@ -28,9 +28,8 @@ use Rattle.cycle.specs.Turns.{stateAt, cycled, Came, Turns}
 use Rattle.machine.specs.declared.Ran.{Ran}
 use Rattle.machine.specs.Numbers.{numbers, cyclesOn, runOn}
 use Rattle.machine.proofs.RunLaws.{run-finishes, run-spent, run-cycles}
-use Rattle.machine.proofs.Carried.{Before, Way, small, unsound, ran, way, given, after, tested, sound-after, numbered, answer-is, cells-are, out-is}
-use Rattle.machine.proofs.Carried.{runnable, tabled, cycles-are, len-is, run-keeps-sound, run-keeps-size, run-keeps-past, run-lists-free}
-use Rattle.machine.proofs.Carried.{run-within-budget}
+use Rattle.machine.proofs.Carried.{Before, Way, small, unsound, ran, way, given, after, tested, sound-after, numbered, answer-is, cells-are, out-is, runnable}
+use Rattle.machine.proofs.Carried.{tabled, cycles-are, len-is, run-keeps-sound, run-keeps-size, run-keeps-past, run-lists-free, run-within-budget}
 use Rattle.promises.specs.Cycles.{afterCycles, EndsAs}
 
 -- a turn that goes on

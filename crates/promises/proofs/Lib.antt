@@ -5,4 +5,5 @@ pub mod FreeLaws
 pub mod Freed
 pub mod Demand3Calls
 pub mod InCycle
+pub mod Lines
 pub mod ExampleHolds

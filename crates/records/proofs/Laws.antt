@@ -7,8 +7,8 @@ use Rattle.paper.specs.declared.Field.{Field}
 use Rattle.paper.specs.declared.Field.the-variants.{Regional, Local, Zero, Blank}
 use Rattle.paper.specs.Limits.{largestNumber, largestP, manyLocals, halfRange}
 use Rattle.paper.specs.Region.{isLetter}
-use Rattle.paper.specs.Record.{region, routine, datum, number, field, guard, signed32, byteAt, nameAt, recordAt, regionAt, routineAt}
-use Rattle.paper.specs.Record.{datumAt, numberAt, startAt, startWith, given, nameAs, maySymb, mayLinkData, pairAt, fieldAt, sizeOf}
+use Rattle.paper.specs.Record.{region, routine, datum, number, field, guard, signed32, byteAt, nameAt, recordAt, regionAt, routineAt, datumAt, numberAt}
+use Rattle.paper.specs.Record.{startAt, startWith, given, nameAs, maySymb, mayLinkData, pairAt, fieldAt, sizeOf}
 use Rattle.cells.specs.Layout.{valueOf}
 use Rattle.records.specs.Symbols.{Written, symbolsIn, symbolsAt, placeOf, symbolAt}
 use Rattle.cells.proofs.Laws.{value-low, value-high}

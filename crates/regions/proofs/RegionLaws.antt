@@ -1,6 +1,6 @@
 -- A definition that goes along the regions, at the rest of a table from number i on: what one turn of a loop does, and its end.
-use Rattle.paper.proofs.Kit.{_||_, ℕ, _+_, _<_, _≤_, Bool, true, false, _&&_, or-true, or-false, List, _≡_, refl, sym, eq-eqb, ne-eqb, eqb-true}
-use Rattle.paper.proofs.Kit.{eqb-false, eqb, leb, length, getD, drop}
+use Rattle.paper.proofs.Kit.{_||_, ℕ, _+_, _<_, _≤_, Bool, true, false, _&&_, or-true, or-false, List, _≡_, refl, sym, eq-eqb, ne-eqb, eqb-true, eqb-false}
+use Rattle.paper.proofs.Kit.{eqb, leb, length, getD, drop}
 use Rattle.paper.specs.Limits.{largestNumber}
 use Rattle.paper.specs.Region.{Region, layout, endOfRegions, letterTaken, newLetter, regionsSound}
 use Rattle.regions.specs.declared.Regions.{Regions}

@@ -1,6 +1,6 @@
 -- Releasing cells one after another is `freeAll`, wherever there is an H2: what H2 holds in between is written over.
-use Rattle.paper.proofs.Kit.{ℕ, _<_, _≡_, refl, sym, ap, _∙_, Bool, true, false, List, [], _∷_, Option, eqb-true, eqb-false, eqb, length, set}
-use Rattle.paper.proofs.Kit.{length-set, getD-set-same, set-set, set-comm}
+use Rattle.paper.proofs.Kit.{ℕ, _<_, _≡_, refl, sym, ap, _∙_, Bool, true, false, List, [], _∷_, Option, eqb-true, eqb-false, eqb, length, set, length-set}
+use Rattle.paper.proofs.Kit.{getD-set-same, set-set, set-comm}
 use Rattle.paper.specs.declared.Refusal.{Refusal}
 use Rattle.paper.specs.Cell.{State, Word, Cell, free, word, wordIn, withLink, withCells, cellAt}
 use Rattle.paper.specs.Act.{done, _>>=_, _>>_, ret, own, put, release}

@@ -1,6 +1,5 @@
 -- What is left of a list from place i on: one more is looked at, or there is none.
-use Rattle.paper.proofs.Kit.{ℕ, _+_, _<_, _≤_, true, false, List, _≡_, refl, add-one, eq-eqb, ne-eqb, length, getD, drop, drop-of-length-le}
-use Rattle.paper.proofs.Kit.{drop-cons}
+use Rattle.paper.proofs.Kit.{ℕ, _+_, _<_, _≤_, true, false, List, _≡_, add-one, eq-eqb, ne-eqb, length, getD, drop, drop-of-length-le, drop-cons}
 use Rattle.vectors.specs.Lines.{mixed, digestFrom, allAre}
 
 module _ (s : List ℕ) (i : ℕ) (here : i < length s) where

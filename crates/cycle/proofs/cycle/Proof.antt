@@ -1,7 +1,7 @@
 use Rattle.cycle.proofs.CycleLaws.{ascends, goes}
 use Rattle.cycle.proofs.TurnLaws.{came, stays-formed}
 use Rattle.structures.proofs.Whole.{clean-as}
-use Rattle.paper.proofs.Kit.{sym, ap, _∙_, arith, needs}
+use Rattle.paper.proofs.Kit.{_∙_, arith, needs}
 use Rattle.cycle.proofs.cycle.Statement.{statement}
 use Rattle.cycle.proofs.cycle.Tie as tie
 

@@ -1,6 +1,6 @@
 use Rattle.cycle.proofs.ExecuteLaws.{stopped, performed, descended, not-one}
 use Rattle.structures.proofs.Whole.{clean-as}
-use Rattle.paper.proofs.Kit.{sym, ap, _∙_, arith, needs}
+use Rattle.paper.proofs.Kit.{sym, _∙_, arith, needs}
 use Rattle.cycle.proofs.execute.Statement.{statement}
 use Rattle.cycle.proofs.execute.Tie as tie
 

@@ -4,7 +4,7 @@ use Rattle.steps.proofs.Sequence.{most, alike, any}
 use Rattle.structures.proofs.Whole.{clean-as}
 use Rattle.paper.specs.Cycle.{operate}
 use Rattle.paper.specs.Act.{choose}
-use Rattle.paper.proofs.Kit.{refl, sym, ap, _∙_, arith, needs}
+use Rattle.paper.proofs.Kit.{refl, sym, ap, arith, needs}
 use Rattle.cycle.proofs.operate.Statement.{statement}
 use Rattle.cycle.proofs.operate.Tie as tie
 

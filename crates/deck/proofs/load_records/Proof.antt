@@ -1,5 +1,5 @@
-use Rattle.deck.proofs.LoopLaws.{Stands, Leaves, partAt, to-end, stands-first, written-more, written-all, leaves-end, leaves-symbol}
-use Rattle.deck.proofs.LoopLaws.{leaves-refused, leaves-as, at-hand, reads-on, further, goes-round, ends}
+use Rattle.deck.proofs.LoopLaws.{Stands, Leaves, partAt, to-end, stands-first, written-more, written-all, leaves-end, leaves-symbol, leaves-refused}
+use Rattle.deck.proofs.LoopLaws.{leaves-as, at-hand, reads-on, further, goes-round, ends}
 use Rattle.records.proofs.Laws.{few-symbols}
 use Rattle.records.specs.Symbols.{Written}
 use Rattle.paper.proofs.Kit.{length, length-drop, ⊎-elim, _≡_, refl, ap, sym, _∙_, _≤_, _-_, arith, needs}

@@ -1,4 +1,4 @@
-use Rattle.paper.proofs.Kit.{ℕ, _+_, _*_, _≡_, refl, ap, subst, _∙_, sym, arith, length, length-replicate, needs}
+use Rattle.paper.proofs.Kit.{ℕ, _+_, _*_, refl, ap, subst, _∙_, arith, length, length-replicate, needs}
 use Rattle.paper.specs.Limits.{largestN}
 use Rattle.sound.proofs.SoundLaws.{passed-formed, passed-end, size-range}
 use Rattle.sound.specs.Asked.{Asks, Passed}

@@ -1,4 +1,4 @@
-use Rattle.paper.proofs.Kit.{refl, ne-eqb, eq-eqb, needs}
+use Rattle.paper.proofs.Kit.{ne-eqb, eq-eqb, needs}
 use Rattle.cycle.proofs.past.is_j1.Statement.{statement}
 use Rattle.cycle.proofs.past.is_j1.Tie as tie
 

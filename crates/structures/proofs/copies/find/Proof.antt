@@ -1,5 +1,5 @@
 -- The free list goes over the cells that are noted so far, and on from `next`.
-use Rattle.paper.proofs.Kit.{needs, not-false, _-_, _%_, _<_, _≤_, _≡_, refl, sym, ap, _∙_, subst, arith, length, getD, length-set}
+use Rattle.paper.proofs.Kit.{needs, not-false, _-_, _%_, _<_, _≤_, _≡_, refl, sym, _∙_, subst, arith, length, getD, length-set}
 use Rattle.paper.specs.Limits.{largestN}
 use Rattle.paper.specs.Cell.{Word}
 use Rattle.cells.specs.Bridge.{unpacked}

@@ -14,7 +14,8 @@ use Rattle.structures.specs.Walks.{Gets, Holds, Visits, arrives, sublist
 use Rattle.structures.proofs.Leads.{Leads, leads-none, leads-end, leads-more, known, verdict-is}
 use Rattle.structures.proofs.Meeting.{New, s-arrives}
 use Rattle.structures.proofs.Holding.{holds-clears, fewer, fits, seen-more, holds-more, holds-as, ends-done, ends-refused, left-done, left-refused}
-use Rattle.structures.proofs.Turn.{list-in, list-none, list-is, step, visits-as, sublist-none, sublist-in, sublist-as, meet-refused, inner-refused, walk-end, walk-on}
+use Rattle.structures.proofs.Turn.{list-in, list-none, list-is, step, visits-as, sublist-none, sublist-in, sublist-as, meet-refused, inner-refused}
+use Rattle.structures.proofs.Turn.{walk-end, walk-on}
 use Rattle.structures.proofs.scratch.clear.Reads as clear-reads
 use Rattle.structures.proofs.scratch.enlist.Reads as enlist-reads
 use Rattle.structures.proofs.walks.arrive.Reads as arrive-reads

@@ -1,4 +1,4 @@
-use Rattle.paper.proofs.Kit.{_≡_, refl, sym, _∙_, true≢false, needs, not-true, le-ltb}
+use Rattle.paper.proofs.Kit.{sym, _∙_, true≢false, needs, not-true, le-ltb}
 use Rattle.cells.specs.Layout.{unpackOf}
 use Rattle.structures.proofs.Meeting.{word-used}
 use Rattle.structures.proofs.walks.fine.Statement.{statement}

@@ -1,4 +1,4 @@
-use Rattle.paper.proofs.Kit.{refl, ap, _∙_, not, eqb, needs}
+use Rattle.paper.proofs.Kit.{ap, _∙_, not, eqb, needs}
 use Rattle.paper.specs.Walk.{meet}
 use Rattle.steps.proofs.Sequence.{bind, test, when, give}
 use Rattle.structures.specs.Walks.{arrives}

@@ -1,0 +1,131 @@
+-- The lines of a run have at most `longestLine` bytes for each of its cycles; and a run that has this much room for each cycle of its budget is not
+-- refused by 30. What it prints is whole lines. All this holds of any state: one that is not run does no cycle.
+use Rattle.paper.proofs.Kit.{List, [], _∷_, _++_, append-assoc, append-nil, _≡_, refl, ap, subst, _∙_, Bool, true, false, cond, _&&_, ℕ, zero, suc}
+use Rattle.paper.proofs.Kit.{_+_, _*_, _≤_, leb, arith, length}
+use Rattle.paper.specs.Limits.{largestBudget, longestLine}
+use Rattle.paper.specs.Step.{Res, done, refused}
+use Rattle.paper.specs.Cell.{sizeFits, State}
+use Rattle.paper.specs.Act.{Refusal, NoRoom}
+use Rattle.paper.specs.Cycle.{cycle}
+use Rattle.paper.specs.Sound.{sound}
+use Rattle.paper.specs.declared.RunAnswer.{RunAnswer}
+use Rattle.paper.specs.declared.RunAnswer.the-variants.{Finished, BadSize, BudgetSpent, NotSound, Refused}
+use Rattle.paper.specs.Run.{isFinished, Outcome, outcome, Turn, finishes, stops, continues, alone, joined, afterCycle, turn, onTurn, runFrom, run}
+use Rattle.paper.proofs.Safe.{After}
+use Rattle.paper.proofs.Demand1.{Runnable, Left, every-cycle, every-run}
+use Rattle.paper.specs.Print.{feedByte}
+use Rattle.paper.proofs.PrintLaws.{Ended, nothing, fed}
+use Rattle.paper.proofs.CycleLines.{Few, cycle-line}
+
+-- the answers of a run that did nothing
+abbrev Unrun : RunAnswer → Type 0
+Unrun BadSize = Unit {0}
+Unrun NotSound = Unit {0}
+Unrun Finished = ⊥
+Unrun BudgetSpent = ⊥
+Unrun (Refused e) = ⊥
+
+-- bytes that a line feed ends, one after the other
+ended-both : {xs ys : List ℕ} → Ended xs → Ended ys → Ended (xs ++ ys)
+ended-both {xs} h nothing = rw (append-nil xs) h
+ended-both {xs} h (fed ys) = subst Ended (append-assoc xs ys (feedByte ∷ [])) (fed (xs ++ ys))
+
+-- what a cycle of a run leaves of its room and its lines
+record Onward (s t : State) : Type 0 where
+  runnable : Runnable t
+  room : s .room ≤ t .room + longestLine
+  ends : Ended (s .lines) → Ended (t .lines)
+
+module _ (s : State) (r : Runnable s) where
+  alone-runs : Runnable (alone s)
+  unfolding sound
+  alone-runs = record { size = r .size; test = r .test }
+
+  goes-on : (t : State) → turn s ≡ continues t → Onward s t
+  unfolding turn isFinished afterCycle sound
+  goes-on t e = go (isFinished s) (cycle (alone s)) (cycle-line (alone s) alone-runs) (every-cycle (alone s) alone-runs) e
+    where
+      go : (b : Bool) (q : Res State Refusal (Unit {0})) → Few (alone s) q → After q (λ a u. Left (alone s) u)
+          → _≡_ {A = Turn} (elim b as (λ _. Turn) [ true ↦ finishes | false ↦ afterCycle s q ]) (continues t) → Onward s t
+      go true q p l e = absurd (let z : _≡_ {A = ℕ} 0 1 = cc in omega arith)
+      go false (refused x) p l e = absurd (let z : _≡_ {A = ℕ} 0 1 = cc in omega arith)
+      go false (done a u) p l e =
+          let same : joined s u ≡ t = cc in
+          subst (Onward s) same
+          (record {
+            runnable = record { size = l .runnable .size; test = l .runnable .test };
+            room = omega (arith, p .short, p .room);
+            ends = λ h. ended-both h (rw (p .lines) (p .ends));
+          })
+
+  stops-not : longestLine ≤ s .room → turn s ≡ stops NoRoom → ⊥
+  unfolding turn isFinished afterCycle
+  stops-not h e = go (isFinished s) (cycle (alone s)) (cycle-line (alone s) alone-runs) e
+    where
+      go : (b : Bool) (q : Res State Refusal (Unit {0})) → Few (alone s) q
+          → _≡_ {A = Turn} (elim b as (λ _. Turn) [ true ↦ finishes | false ↦ afterCycle s q ]) (stops NoRoom) → ⊥
+      go true q p e = absurd (let z : _≡_ {A = ℕ} 0 1 = cc in omega arith)
+      go false (done a u) p e = absurd (let z : _≡_ {A = ℕ} 0 1 = cc in omega arith)
+      go false (refused x) p e = let same : x ≡ NoRoom = cc in absurd (omega (arith, p same))
+
+room-for-all : (budget n : ℕ) (s : State) → Runnable s → budget * longestLine ≤ s .room → runFrom budget n s .answer ≡ Refused NoRoom → ⊥
+unfolding runFrom onTurn
+room-for-all zero n s r h e = go (isFinished s) e
+  where
+    go : (b : Bool) → cond b Finished BudgetSpent ≡ Refused NoRoom → ⊥
+    go true e = absurd (let z : _≡_ {A = ℕ} 0 1 = cc in omega arith)
+    go false e = absurd (let z : _≡_ {A = ℕ} 0 1 = cc in omega arith)
+room-for-all (suc budget) n s r h e = go (turn s) refl (λ t k b. room-for-all budget (suc n) t k b) e
+  where
+    go : (t : Turn) → turn s ≡ t
+        → ((u : State) → Runnable u → budget * longestLine ≤ u .room → runFrom budget (suc n) u .answer ≡ Refused NoRoom → ⊥)
+        → onTurn {A = Outcome} t (outcome Finished n s) (λ x. outcome (Refused x) n s) (λ u. runFrom budget (suc n) u) .answer ≡ Refused NoRoom → ⊥
+    go finishes q ih e = absurd (let z : _≡_ {A = ℕ} 0 1 = cc in omega arith)
+    go (stops x) q ih e = let same : x ≡ NoRoom = cc in stops-not s r (omega arith) (q ∙ ap stops same)
+    go (continues t) q ih e = let k = goes-on s r t q in ih t (k .runnable) (omega (arith, k .room)) e
+
+-- what each cycle keeps, a run keeps
+along : (P : ℕ → State → Type 0) → ((n : ℕ) (s t : State) → Onward s t → P n s → P (suc n) t)
+    → (budget n : ℕ) (s : State) → Runnable s → P n s → let o = runFrom budget n s in P (o .cycles) (o .state)
+unfolding runFrom onTurn
+along P f zero n s r h = h
+along P f (suc budget) n s r h = go (turn s) refl (λ t k p. along P f budget (suc n) t k p)
+  where
+    go : (t : Turn) → turn s ≡ t → ((u : State) → Runnable u → P (suc n) u → let o = runFrom budget (suc n) u in P (o .cycles) (o .state))
+        → (let o = onTurn {A = Outcome} t (outcome Finished n s) (λ x. outcome (Refused x) n s) (λ u. runFrom budget (suc n) u) in P (o .cycles) (o .state))
+    go finishes q ih = h
+    go (stops x) q ih = h
+    go (continues t) q ih = let k = goes-on s r t q in ih t (k .runnable) (f n s t k h)
+
+room-used : (budget : ℕ) (s : State) → Runnable s → let o = runFrom budget 0 s in s .room ≤ o .state .room + o .cycles * longestLine
+room-used budget s r = along (λ n u. s .room ≤ u .room + n * longestLine) (λ n u t k h. omega (arith, k .room)) budget 0 s r (omega arith)
+
+-- what is so of the cycles of a run, and of one that does none, is so of the public run
+by-cycles : (P : Outcome → Type 0) (budget : ℕ) (s : State) → (Runnable s → P (runFrom budget 0 s)) → ((a : RunAnswer) → Unrun a → P (outcome a 0 s))
+    → P (run budget s)
+unfolding run
+by-cycles P budget s h k = go (sizeFits (length (s .cells))) refl (sound s) refl (leb budget largestBudget)
+  where
+    go : (a : Bool) → sizeFits (length (s .cells)) ≡ a → (b : Bool) → sound s ≡ b → (c : Bool) → P (elim a as (λ _. Outcome) [
+      | false ↦ outcome BadSize 0 s
+      | true ↦ elim (b && c) as (λ _. Outcome) [ false ↦ outcome NotSound 0 s | true ↦ runFrom budget 0 s ]
+    ])
+    go true f true t true = h (record { size = f; test = t })
+    go true f true t false = k NotSound tt
+    go true f false t true = k NotSound tt
+    go true f false t false = k NotSound tt
+    go false f b t c = k BadSize tt
+
+pub enough-room : (budget : ℕ) (s : State) → budget * longestLine ≤ s .room → run budget s .answer ≡ Refused NoRoom → ⊥
+enough-room budget s h =
+    by-cycles (λ o. o .answer ≡ Refused NoRoom → ⊥) budget s (λ r. room-for-all budget 0 s r h) λ a u e. subst Unrun e u
+
+pub lines-short : (budget : ℕ) (s : State) → let o = run budget s in length (o .state .lines) ≤ length (s .lines) + o .cycles * longestLine
+lines-short budget s =
+    by-cycles (λ o. length (o .state .lines) ≤ length (s .lines) + o .cycles * longestLine) budget s
+    (λ r. omega (arith, room-used budget s r, every-run budget 0 s r .within .room)) λ a u. omega arith
+
+-- whole lines: where those before end with a line feed, or there are none, so do all
+pub lines-whole : (budget : ℕ) (s : State) → Ended (s .lines) → Ended (run budget s .state .lines)
+lines-whole budget s h =
+    by-cycles (λ o. Ended (o .state .lines)) budget s (λ r. along (λ n u. Ended (u .lines)) (λ n u t k. k .ends) budget 0 s r h) λ a u. h
