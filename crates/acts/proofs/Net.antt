@@ -1,13 +1,13 @@
 -- Pop, then push x, is `stays x` wherever H2 is a word: the cell that the pop frees is the one that the push takes.
-use Rattle.paper.proofs.Kit.{_≡_, refl, sym, ap, _∙_, Bool, true, false, _&&_, not, List, [], _∷_, _≢_, Option, ℕ, zero, suc, _+_, _<_, _≤_, arith, eqb-false}
-use Rattle.paper.proofs.Kit.{ltb-false, lt-ltb, eqb, ltb, length, set, length-set, getD-set-same, getD-set-other, set-set, set-comm, set-getD}
+use Rattle.paper.proofs.Kit.{clash, _≡_, refl, sym, ap, _∙_, Bool, true, false, _&&_, not, List, [], _∷_, _≢_, Option, ℕ, zero, suc, _+_, _<_, _≤_, arith}
+use Rattle.paper.proofs.Kit.{eqb-false, ltb-false, lt-ltb, eqb, ltb, length, set, length-set, getD-set-same, getD-set-other, set-set, set-comm, set-getD}
 use Rattle.paper.specs.declared.Symbol.{Symbol}
 use Rattle.paper.specs.declared.Refusal.{Refusal}
 use Rattle.paper.specs.declared.Refusal.the-variants.{FreeCell, WrongKind, NotToBeFreed, NothingBelow}
-use Rattle.paper.specs.Cell.{State, Region, Cell, free, word, term, process, isFree, isWord, wordIn, Word, withLink, withCells, cellAt}
-use Rattle.paper.specs.Cell.{endOfRegions, reservedIn, isHW, H}
-use Rattle.paper.specs.Act.{Act, done, refused, _>>=_, _>>_, ret, refuseIf, own, peek, put, reserved, touch, asWord, wordAt, hasBelow, pullUp, release}
-use Rattle.paper.specs.Act.{takeAs, ownRestore, pop, push, pops, gives}
+use Rattle.paper.specs.Cell.{State, Region, Cell, free, word, term, process, isFree, isWord, wordIn, Word, withLink, withCells, cellAt, endOfRegions}
+use Rattle.paper.specs.Cell.{reservedIn, isHW, H}
+use Rattle.paper.specs.Act.{Act, done, refused, _>>=_, _>>_, ret, refuseIf, own, peek, put, reserved, touch, asWord, wordAt, hasBelow, pullUp, release, takeAs}
+use Rattle.paper.specs.Act.{ownRestore, pop, push, pops, gives}
 use Rattle.cells.specs.Bridge.{Rest, stateOf, cellIn}
 use Rattle.steps.specs.Follows.{Follows}
 use Rattle.undo.specs.Did.{lent}
@@ -30,7 +30,7 @@ high rs (suc n) n0 un =
     omega (arith, ltb-false (suc n) (endOfRegions rs 221) q, end-least rs 221)
 
 in-range : (cs : List Cell) (n : ℕ) (v : Word) → cellAt cs n ≡ word v → n < length cs
-in-range [] n v e = absurd (let z : _≡_ {A = ℕ} 0 1 = cc in omega arith)
+in-range [] n v e = clash cc
 in-range (y ∷ cs) zero v e = omega arith
 in-range (y ∷ cs) (suc n) v e = let h = in-range cs n v e in omega arith
 
@@ -241,9 +241,9 @@ module _ (s : State) (x : Symbol) (w v h : Word) (p : Pops s w v) (at-3 : cellAt
 
 is-word : (y : Cell) → isWord y ≡ true → y ≡ word (wordIn y)
 is-word (word w) e = refl
-is-word (free l) e = absurd (let z : _≡_ {A = ℕ} 0 1 = cc in omega arith)
-is-word (term z) e = absurd (let z : _≡_ {A = ℕ} 0 1 = cc in omega arith)
-is-word process e = absurd (let z : _≡_ {A = ℕ} 0 1 = cc in omega arith)
+is-word (free l) e = clash cc
+is-word (term z) e = clash cc
+is-word process e = clash cc
 
 net : (x : Symbol) (s : State) → isWord (cellAt (s .cells) 3) ≡ true → gives 1 x s ≡ stays x s
 net x s k = go (way s)

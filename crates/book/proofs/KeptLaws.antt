@@ -1,6 +1,6 @@
 -- Laws of the locals in two arrays.
-use Rattle.paper.proofs.Kit.{_||_, ℕ, zero, suc, _+_, _<_, _≤_, Bool, true, false, _&&_, not, List, [], _∷_, _≡_, refl, ap, _∙_, sym, arith, add-one, eqb}
-use Rattle.paper.proofs.Kit.{length, getD, set, drop, drop-of-length-le, drop-cons}
+use Rattle.paper.proofs.Kit.{clash, _||_, ℕ, zero, suc, _+_, _<_, _≤_, Bool, true, false, _&&_, not, List, [], _∷_, _≡_, refl, ap, _∙_, sym, arith, add-one}
+use Rattle.paper.proofs.Kit.{eqb, length, getD, set, drop, drop-of-length-le, drop-cons}
 use Rattle.paper.specs.Deck.{LocalCell, noLocal, localAt, allWords}
 use Rattle.book.specs.Kept.{localsOf}
 
@@ -41,14 +41,14 @@ unfolding localsOf allWords
 words-more cs fs i h k = rw (drop-cons cs i 0 h, drop-cons fs i false k, add-one)
 
 missing : (x f y : Bool) → (not x && not f) ≡ true → ((x || f) && y) ≡ false
-missing true f y e = let z : _≡_ {A = ℕ} 0 1 = cc in absurd (omega arith)
-missing false true y e = let z : _≡_ {A = ℕ} 0 1 = cc in absurd (omega arith)
+missing true f y e = clash cc
+missing false true y e = clash cc
 missing false false y e = refl
 
 there : (x f y : Bool) → (not x && not f) ≡ false → y ≡ ((x || f) && y)
 there true f y e = refl
 there false true y e = refl
-there false false y e = let z : _≡_ {A = ℕ} 0 1 = cc in absurd (omega arith)
+there false false y e = clash cc
 
 module _ (cs : List ℕ) (fs : List Bool) (i : ℕ) (h : i < length cs) (k : i < length fs) where
   pub words-missing : (not (eqb (getD cs i 0) 0) && not (getD fs i false)) ≡ true → wordsFrom cs fs i ≡ false

@@ -1,6 +1,6 @@
 -- `execute` past all J1: a refusal, a process by its family, or a descent.
-use Rattle.paper.proofs.Kit.{ℕ, _+_, _-_, _<_, _≤_, _≡_, refl, sym, ap, _∙_, subst, _≢_, true, false, true≢false, Option, none, some, List, [], arith, eq-eqb}
-use Rattle.paper.proofs.Kit.{length, getD}
+use Rattle.paper.proofs.Kit.{clash, ℕ, _+_, _-_, _<_, _≤_, _≡_, refl, sym, ap, _∙_, subst, _≢_, true, false, true≢false, Option, none, some, List, [], arith}
+use Rattle.paper.proofs.Kit.{eq-eqb, length, getD}
 use Rattle.paper.specs.declared.Refusal.{Refusal}
 use Rattle.paper.specs.declared.Symbol.{Symbol}
 use Rattle.paper.specs.Cell.{Cell, State, J, isProcess}
@@ -35,7 +35,7 @@ nowhere = stateOf somewhere []
 went : {A : Type 0} (M : Act A) (v : A) (t t′ : State) (a : Option Refusal) → (left a >> M) t ≡ (left none >> ret v) t′ → a ≡ none
 unfolding left _>>_ ret refuse
 went M v t t′ none h = refl
-went M v t t′ (some e) h = absurd (let q : _≡_ {A = ℕ} 0 1 = cc in omega arith)
+went M v t t′ (some e) h = clash cc
 
 came : {A : Type 0} {a r : Option Refusal} (t t′ : State) (M : Act A) (v : A) → a ≡ none → r ≡ none → (left a >> M) t ≡ (left r >> ret v) t′ → M t ≡ done v t′
 unfolding left _>>_ ret

@@ -1,6 +1,6 @@
 -- The laws of `Reaches`: a turn of J1, the last turn, and what follows.
-use Rattle.paper.proofs.Kit.{ℕ, zero, suc, _+_, _-_, _<_, _≤_, _≡_, refl, ap, _∙_, sym, subst, Bool, true, false, _&&_, Option, none, some, List}
-use Rattle.paper.proofs.Kit.{[], arith, add-one, eqb-true, eqb-false, ne-eqb, eq-eqb, lt-ltb, eqb, ltb, length}
+use Rattle.paper.proofs.Kit.{clash, ℕ, zero, suc, _+_, _-_, _<_, _≤_, _≡_, refl, ap, _∙_, sym, subst, Bool, true, false, _&&_, Option, none, some, List, []}
+use Rattle.paper.proofs.Kit.{arith, add-one, eqb-true, eqb-false, ne-eqb, eq-eqb, lt-ltb, eqb, ltb, length}
 use Rattle.paper.specs.declared.Refusal.{Refusal}
 use Rattle.paper.specs.declared.Refusal.the-variants.{WrongKind}
 use Rattle.paper.specs.declared.Symbol.{Symbol}
@@ -155,8 +155,8 @@ module _ (z : Refusal) (go r : ℕ) (p : r ≡ 0) where
   went : (b : Bool) (a : Option Refusal) → (left a >> refuseIf b z) nowhere ≡ (left none >> ret (tt {0})) nowhere → (b ≡ false) × (a ≡ none)
   unfolding left _>>_ ret refuse refuseIf
   went false none h = (refl, refl)
-  went true none h = absurd (let q : _≡_ {A = ℕ} 0 1 = cc in omega arith)
-  went b (some e) h = absurd (let q : _≡_ {A = ℕ} 0 1 = cc in omega arith)
+  went true none h = clash cc
+  went b (some e) h = clash cc
 
   judged-went : (b : Bool) → Judged {S = State} steps.Always (refuseIf b z) (told go) (told r) → (b ≡ false) × (told go ≡ none)
   judged-went b d = went b (told go) (d .is nowhere tt .is ∙ ap (λ a. (left a >> ret (tt {0})) nowhere) (told-done r p))
@@ -164,7 +164,7 @@ module _ (z : Refusal) (go r : ℕ) (p : r ≡ 0) where
 pub told-none : (go : ℕ) → told go ≡ none → go ≡ 0
 unfolding told
 told-none zero p = refl
-told-none (suc n) p = absurd (let q : _≡_ {A = ℕ} 0 1 = cc in omega arith)
+told-none (suc n) p = clash cc
 
 -- the end of the loop: n turns are left of those that s₀ has, and J1 does not come, as the test t says
 not-j1 : (s : List ℕ) (n : ℕ) (y : Symbol) (go r : ℕ) (t : Bool) → t ≡ isJ1 s go (y .num) → (ltb 0 n && t) ≡ false

@@ -1,6 +1,6 @@
 -- The record loop: what holds at its head, each way out of it, and one turn.
-use Rattle.paper.proofs.Kit.{ℕ, suc, _+_, _-_, _<_, _≤_, Bool, true, false, cond, _&&_, not, List, [], Option, none, some, _≡_, refl, ap, sym, _∙_, subst}
-use Rattle.paper.proofs.Kit.{arith, ℕ-discrete, ltb-true, ltb-false, eq-eqb, ne-eqb, ltb, eqb, length, take, drop, set, length-drop, take-all}
+use Rattle.paper.proofs.Kit.{clash, ℕ, suc, _+_, _-_, _<_, _≤_, Bool, true, false, cond, _&&_, not, List, [], Option, none, some, _≡_, refl, ap, sym, _∙_}
+use Rattle.paper.proofs.Kit.{subst, arith, ℕ-discrete, ltb-true, ltb-false, eq-eqb, ne-eqb, ltb, eqb, length, take, drop, set, length-drop, take-all}
 use Rattle.paper.specs.declared.Fault.{Fault}
 use Rattle.paper.specs.declared.Fault.the-variants.{BadField, NotEnded}
 use Rattle.paper.specs.declared.Field.{Field}
@@ -56,7 +56,7 @@ stands-first deck n {s} {m} {r} {k} e ls lm b f =
       so-far = refl;
       within = omega arith;
       reached = λ _. at-start (length s) deck _ (b ∙ (λ i. freshBook (sym ls i) (empty i)));
-      over = λ e. let z : _≡_ {A = ℕ} 0 1 = cc in absurd (omega arith);
+      over = λ e. clash cc;
     }
   where
     empty : regionsOf r ≡ []
@@ -69,11 +69,11 @@ completed (some f) b = some f
 
 tested : (t : Book) (b : Bool) (a r : Option Fault) → (left a >> refuseIf b NotEnded) t ≡ (left r >> ret (tt {0})) t → completed a b ≡ r
 unfolding left _>>_ ret refuse refuseIf
-tested t true none none p = absurd (let z : _≡_ {A = ℕ} 0 1 = cc in omega arith)
+tested t true none none p = clash cc
 tested t true none (some e) p = cc
 tested t false none none p = refl
-tested t false none (some e) p = absurd (let z : _≡_ {A = ℕ} 0 1 = cc in omega arith)
-tested t b (some d) none p = absurd (let z : _≡_ {A = ℕ} 0 1 = cc in omega arith)
+tested t false none (some e) p = clash cc
+tested t b (some d) none p = clash cc
 tested t b (some d) (some e) p = cc
 
 -- behind the loop: what the records come to, by the verdict
@@ -135,8 +135,8 @@ at-hand at n last h = go (ltb at n) last refl refl h
   where
     go : (t l : Bool) → ltb at n ≡ t → last ≡ l → (t && not l) ≡ true → (at < n) × (last ≡ false)
     go true false e f g = (ltb-true _ _ e, f)
-    go true true e f g = let z : _≡_ {A = ℕ} 0 1 = cc in absurd (omega arith)
-    go false l e f g = let z : _≡_ {A = ℕ} 0 1 = cc in absurd (omega arith)
+    go true true e f g = clash cc
+    go false l e f g = clash cc
 
 module _ {deck : List ℕ} {n : ℕ} {s : List ℕ} {m : List Bool} {r : Regions} {k : Notes} {go : ℕ} {last : Bool} {at : ℕ}
     (w : Stands deck n s m r k go last at) where

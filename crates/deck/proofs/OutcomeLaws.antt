@@ -1,5 +1,5 @@
 -- The outcome of a load in numbers.
-use Rattle.paper.proofs.Kit.{ℕ, zero, suc, _≤_, Bool, true, false, cond, _&&_, not, List, [], _∷_, _≡_, refl, ap, sym, _∙_, Option, none, some, arith}
+use Rattle.paper.proofs.Kit.{clash, ℕ, zero, suc, _≤_, Bool, true, false, cond, _&&_, not, List, [], _∷_, _≡_, refl, ap, sym, _∙_, Option, none, some}
 use Rattle.paper.proofs.Kit.{leb-true, not-true, not-false, leb, length, take, replicate, length-replicate, length-take-le}
 use Rattle.paper.specs.declared.Fault.{Fault}
 use Rattle.paper.specs.declared.LoadAnswer.the-variants.{Loaded as AnswerLoaded, BadSize, Broken}
@@ -24,7 +24,7 @@ in-range n b e h = leb-true n largestN (second (leb smallestN n) (leb n largestN
   where
     second : (s t : Bool) → (s && t) ≡ true → t ≡ true
     second true t e = e
-    second false t e = let z : _≡_ {A = ℕ} 0 1 = cc in absurd (omega arith)
+    second false t e = clash cc
 
 -- the first n of k marks
 pub marks-lent : (n k : ℕ) → n ≤ k → n ≡ length (take n (replicate k false))

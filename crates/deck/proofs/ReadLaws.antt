@@ -1,5 +1,5 @@
 -- Reading a deck record by record: what one record comes to, and where the loop stands.
-use Rattle.paper.proofs.Kit.{ℕ, zero, suc, _+_, _<_, _≤_, Bool, true, false, List, [], _∷_, Option, none, some, _≡_, refl, ap, sym, _∙_, arith, eq-eqb}
+use Rattle.paper.proofs.Kit.{clash, ℕ, zero, suc, _+_, _<_, _≤_, Bool, true, false, List, [], _∷_, Option, none, some, _≡_, refl, ap, sym, _∙_, arith, eq-eqb}
 use Rattle.paper.proofs.Kit.{ne-eqb, lt-ltb, le-ltb, ltb-true, ltb-false, ltb, length, drop, length-drop, drop-of-length-le, drop-drop}
 use Rattle.paper.specs.declared.Fault.{Fault}
 use Rattle.paper.specs.declared.Fault.the-variants.{PastEnd, UnknownKind, BadField, NotEnded}
@@ -60,10 +60,10 @@ module _ (size kind : ℕ) (r : List ℕ) (b : Book) where
   was-whole {l} {c} e = (none, go (ltb (length r) (sizeOf kind)) refl)
     where
       none : sizeOf kind ≡ 0 → ⊥
-      none z = let y = unknown z in let x : _≡_ {A = ℕ} 0 1 = cc in omega arith
+      none z = let y = unknown z in clash cc
 
       go : (t : Bool) → ltb (length r) (sizeOf kind) ≡ t → sizeOf kind ≤ length r
-      go true f = let y = cut-off none (ltb-true _ _ f) in let x : _≡_ {A = ℕ} 0 1 = cc in absurd (omega arith)
+      go true f = let y = cut-off none (ltb-true _ _ f) in clash cc
       go false f = ltb-false _ _ f
 
 -- what is whole comes to what its record comes to

@@ -1,5 +1,5 @@
 -- The lines of a record's block that write.
-use Rattle.paper.proofs.Kit.{_||_, ℕ, Bool, true, false, List, [], _∷_, _++_, _≡_, refl, ap, sym, _∙_, subst, Option, none, some, arith, set}
+use Rattle.paper.proofs.Kit.{clash, _||_, ℕ, Bool, true, false, List, [], _∷_, _++_, _≡_, refl, ap, sym, _∙_, subst, Option, none, some, set}
 use Rattle.paper.specs.Cell.{Region, Cell, word, mkWord, H, J}
 use Rattle.paper.specs.declared.Fault.{Fault}
 use Rattle.paper.specs.Step.{_>>_, refuseIf, becomes}
@@ -35,8 +35,8 @@ lays size x {rs} {k} {k′} {s} {s′} {m} {m′} rs′ e b f = changes _ (held 
 
 -- none of three
 pub none-holds : (a b c : Bool) → (a || b || c) ≡ false → (a ≡ false) × (b ≡ false) × (c ≡ false)
-none-holds true b c e = let z : _≡_ {A = ℕ} 0 1 = cc in absurd (omega arith)
-none-holds false true c e = let z : _≡_ {A = ℕ} 0 1 = cc in absurd (omega arith)
+none-holds true b c e = clash cc
+none-holds false true c e = clash cc
 none-holds false false c e = (refl, refl, e)
 
 -- one test of the code for two lines of the block: y counts where x does not refuse

@@ -1,5 +1,5 @@
 -- The table that the loader makes, one region more at a time: 23 letters are enough.
-use Rattle.paper.proofs.Kit.{_||_, ℕ, zero, suc, _+_, _<_, _≤_, Bool, true, false, cond, _&&_, List, [], _∷_, _++_, _≡_, refl, ap, sym, _∙_, arith}
+use Rattle.paper.proofs.Kit.{clash, _||_, ℕ, zero, suc, _+_, _<_, _≤_, Bool, true, false, cond, _&&_, List, [], _∷_, _++_, _≡_, refl, ap, sym, _∙_, arith}
 use Rattle.paper.proofs.Kit.{ℕ-discrete, decLt, eq-eqb, leb-true, eqb, leb, length, length-append}
 use Rattle.paper.specs.Limits.{largestN, firstDeck}
 use Rattle.paper.specs.Region.{Region, endOfRegions, isLetter, layout, letterTaken}
@@ -80,7 +80,7 @@ module _ (r : Regions) (b n : ℕ) (ls : length (r .letters) ≡ 23) (cs : lengt
     where
       both : (s t : Bool) → (s && t) ≡ true → (s ≡ true) × (t ≡ true)
       both true t e = (refl, e)
-      both false t e = let z : _≡_ {A = ℕ} 0 1 = cc in absurd (omega arith)
+      both false t e = clash cc
 
   not-full : r .n < 23
   not-full = go (decLt (r .n) 23)

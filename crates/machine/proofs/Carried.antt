@@ -1,6 +1,6 @@
 -- Demands 1 and 2, carried to the call: of every outcome that the contract of `run` allows. A budget may be any number of cycles, so
 -- what is said of a run is said after each of its cycles. Each statement can be read without its proof.
-use Rattle.paper.proofs.Kit.{ℕ, zero, suc, _+_, _≤_, _≡_, refl, sym, ap, subst, _∙_, Bool, true, false, _⊎_, ⊎-elim, List, [], arith, length, drop}
+use Rattle.paper.proofs.Kit.{clash, ℕ, zero, suc, _+_, _≤_, _≡_, refl, sym, ap, subst, _∙_, Bool, true, false, _⊎_, ⊎-elim, List, [], arith, length, drop}
 use Rattle.paper.proofs.Kit.{length-append, length-drop, length-map, drop-append-seam, leb, leb-true, leb-false}
 use Rattle.paper.specs.declared.Refusal.{Refusal}
 use Rattle.paper.specs.declared.RunAnswer.{RunAnswer}
@@ -81,8 +81,8 @@ unfolding afterCycle
 goes-on t q = go (cycle (alone t)) q
   where
     go : (x : Res State Refusal (Unit {0})) → afterCycle t x ≡ finishes → ⊥
-    go (done u v) e = let z : _≡_ {A = ℕ} 0 1 = cc in omega arith
-    go (refused e) p = let z : _≡_ {A = ℕ} 0 1 = cc in omega arith
+    go (done u v) e = clash cc
+    go (refused e) p = clash cc
 
 -- What a refusal leaves is what the cycles before it left: as many as the answer says, given as the budget, end there.
 record Cut (left n : ℕ) (t : State) : Type 0 where

@@ -11,7 +11,7 @@ use Rattle.paper.specs.Sound.{sound}
 use Rattle.paper.proofs.Safe.{After, Safe, safe-refuseIf}
 use Rattle.paper.proofs.SoundStore.{Frame}
 use Rattle.paper.proofs.ActLaws.{Ok, s-own, s-touch, s-notOwn, s-designate}
-use Rattle.paper.proofs.ProcessLaws.{NextOk, s-perform}
+use Rattle.paper.proofs.PerformLaws.{NextOk, s-perform}
 use Rattle.paper.proofs.BookLaws.{choose-both, choose-last}
 use Rattle.paper.proofs.CycleLaws.{the-word}
 use Rattle.paper.proofs.Demand1.{Runnable}

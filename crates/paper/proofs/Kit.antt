@@ -1,4 +1,4 @@
--- What proofs use of the kit: paths, logic, lists, numbers, and the rulesets of omega and of needs.
+-- What proofs use of the kit: paths, logic, lists, numbers, and the rulesets of omega and of needs; and `clash`.
 pub use Prim.Native.Nat.{_%_, _*_, _+_, _-_, _/_, _<_, _^_, _≤_, min, suc, zero, ℕ}
 pub use borrow.Author.Needs.{needs}
 pub use borrow.Author.Tests.{eq-eqb, eqb-false, eqb-true, le-leb, le-ltb, leb-false, leb-true, lt-leb, lt-ltb, ltb-false, ltb-true, ne-eqb, not-false}
@@ -24,3 +24,7 @@ pub use native.Mathlib.Decide.{decLe, decLt, ℕ-discrete}
 pub use native.Mathlib.Nat.{eq-or-lt-of-le, le-of-suc-le-suc, le-refl, min-eq-left, min-eq-right, mul-suc, pow-suc, zero-add}
 pub use native.Mathlib.Numerals.{add-one}
 pub use native.Mathlib.Omega.{arith}
+
+-- constructors that differ are not equal: where a hypothesis says so, `clash cc` proves anything
+pub clash : {A : Type 0} → _≡_ {A = ℕ} 0 1 → A
+clash e = absurd (omega arith)

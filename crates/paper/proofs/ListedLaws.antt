@@ -1,6 +1,6 @@
 -- What a listed process may be refused by, and what it prints. 28 is the answer of a process that is not listed, and of nothing else; 30 is that
 -- of J152 and J153, and no other process prints.
-use Rattle.paper.proofs.Kit.{_≡_, refl, sym, subst, _∙_, Bool, true, false, _&&_, List, [], _∷_, _⊎_, inl, inr, ⊎-elim, ℕ, _-_, _<_, _≤_, arith}
+use Rattle.paper.proofs.Kit.{clash, _≡_, refl, sym, subst, _∙_, Bool, true, false, _&&_, List, [], _∷_, _⊎_, inl, inr, ⊎-elim, ℕ, _-_, _<_, _≤_, arith}
 use Rattle.paper.proofs.Kit.{ℕ-discrete, leb, leb-true}
 use Rattle.paper.specs.Limits.{longestLine}
 use Rattle.paper.specs.Step.{Res, done, refused, _>>_, ret}
@@ -8,7 +8,7 @@ use Rattle.paper.specs.Cell.{J, State}
 use Rattle.paper.specs.Act.{Act, Refusal, NotListed, NoRoom}
 use Rattle.paper.specs.Process.{J152, J153, goesOn, Next, then, executing, Entry, thenOn, one, ten, listed, covers, isListed, perform}
 use Rattle.paper.proofs.SoundStore.{Frame, Sound, and-true}
-use Rattle.paper.proofs.ProcessLaws.{Among, here, later, unlisted, is-listed}
+use Rattle.paper.proofs.PerformLaws.{Among, here, later, unlisted, is-listed}
 use Rattle.paper.proofs.QuietLaws.{Same, Still, Quiet, q-ret, q-seq, q-pop}
 use Rattle.paper.proofs.QuietProcesses.{q-setH5, q-J1, q-J2, q-J5, q-J6, q-J9, q-J2n, q-J3n, q-J4n, q-J5n, q-J60, q-J63, q-J64, q-J68, q-J71, q-J72}
 use Rattle.paper.proofs.QuietProcesses.{q-J74, q-J90, q-combines, q-compares, q-compares0, q-J120, q-changes, q-J124, q-testsTag, q-J131, q-retags}
@@ -118,7 +118,7 @@ only-printers n s e = go (ℕ-discrete n 152) (ℕ-discrete n 153) (isListed n) 
     go (yes p) _ b l = inl p
     go (no p) (yes q) b l = inr q
     go (no p) (no q) true l = absurd (rw e at (others-quiet n l (⊎-elim p q) .at s))
-    go (no p) (no q) false l = absurd (let h : refused NoRoom ≡ refused (NotListed (J n)) = sym e ∙ unlisted n s l in let z : _≡_ {A = ℕ} 0 1 = cc in omega arith)
+    go (no p) (no q) false l = absurd (let h : refused NoRoom ≡ refused (NotListed (J n)) = sym e ∙ unlisted n s l in clash cc)
 
 -- in a sound store any process prints `longestLine` bytes at most, none where something is to be executed, and 30 is for want of them
 abbrev pub Scarce : State → Refusal → Type 0
@@ -152,4 +152,4 @@ perform-leaves F n s i = go (isListed n) refl
   where
     go : (b : Bool) → isListed n ≡ b → Leaves s (perform n s)
     go true p = let d = is-listed n p in rw (d .does s) (kind-leaves (kind-in all-kinds (d .inList)) (n - d .entry .from) F s i)
-    go false p = rw (unlisted n s p) (λ q. absurd (let z : _≡_ {A = ℕ} 0 1 = cc in omega arith))
+    go false p = rw (unlisted n s p) (λ q. clash cc)

@@ -1,5 +1,5 @@
 -- What J152 and J153 print: a line of at most so many bytes. They are refused by 30 where it does not fit, and never by 28.
-use Rattle.paper.proofs.Kit.{decLt, lt-ltb, le-ltb, _≡_, refl, sym, ap, subst, _∙_, List, [], _∷_, _++_, append-nil, ℕ, _+_, _<_, _≤_, ℤ, arith}
+use Rattle.paper.proofs.Kit.{clash, decLt, lt-ltb, le-ltb, _≡_, refl, sym, ap, subst, _∙_, List, [], _∷_, _++_, append-nil, ℕ, _+_, _<_, _≤_, ℤ, arith}
 use Rattle.paper.proofs.Kit.{length, length-append}
 use Rattle.paper.specs.Limits.{longestSymbolLine, longestLine}
 use Rattle.paper.specs.Step.{Res, done, refused, _>>=_, _>>_, refuseIf, asks, becomes}
@@ -55,7 +55,7 @@ line-from k p (refused e) (scarce h) = scarce (omega (arith, p .room))
 
 pub no-28 : {k : ℕ} {s : State} {e : Refusal} → Cause k s e → (c : ℕ) → e ≡ NotListed c → ⊥
 no-28 (other h) c p = subst Other p h
-no-28 (scarce h) c p = absurd (let z : _≡_ {A = ℕ} 0 1 = cc in omega arith)
+no-28 (scarce h) c p = clash cc
 
 pub no-30 : {k : ℕ} {s : State} {e : Refusal} → Cause k s e → e ≡ NoRoom → s .room < k
 no-30 (other h) p = absurd (subst Other p h)

@@ -1,7 +1,7 @@
 -- The lines of a run have at most `longestLine` bytes for each of its cycles; and a run that has this much room for each cycle of its budget is not
 -- refused by 30. What it prints is whole lines. All this holds of any state: one that is not run does no cycle.
-use Rattle.paper.proofs.Kit.{List, [], _∷_, _++_, append-assoc, append-nil, _≡_, refl, ap, subst, _∙_, Bool, true, false, cond, _&&_, ℕ, zero, suc}
-use Rattle.paper.proofs.Kit.{_+_, _*_, _≤_, leb, arith, length}
+use Rattle.paper.proofs.Kit.{clash, List, [], _∷_, _++_, append-assoc, append-nil, _≡_, refl, ap, subst, _∙_, Bool, true, false, cond, _&&_, ℕ, zero}
+use Rattle.paper.proofs.Kit.{suc, _+_, _*_, _≤_, leb, arith, length}
 use Rattle.paper.specs.Limits.{largestBudget, longestLine}
 use Rattle.paper.specs.Step.{Res, done, refused}
 use Rattle.paper.specs.Cell.{sizeFits, State}
@@ -47,8 +47,8 @@ module _ (s : State) (r : Runnable s) where
     where
       go : (b : Bool) (q : Res State Refusal (Unit {0})) → Few (alone s) q → After q (λ a u. Left (alone s) u)
           → _≡_ {A = Turn} (elim b as (λ _. Turn) [ true ↦ finishes | false ↦ afterCycle s q ]) (continues t) → Onward s t
-      go true q p l e = absurd (let z : _≡_ {A = ℕ} 0 1 = cc in omega arith)
-      go false (refused x) p l e = absurd (let z : _≡_ {A = ℕ} 0 1 = cc in omega arith)
+      go true q p l e = clash cc
+      go false (refused x) p l e = clash cc
       go false (done a u) p l e =
           let same : joined s u ≡ t = cc in
           subst (Onward s) same
@@ -64,8 +64,8 @@ module _ (s : State) (r : Runnable s) where
     where
       go : (b : Bool) (q : Res State Refusal (Unit {0})) → Few (alone s) q
           → _≡_ {A = Turn} (elim b as (λ _. Turn) [ true ↦ finishes | false ↦ afterCycle s q ]) (stops NoRoom) → ⊥
-      go true q p e = absurd (let z : _≡_ {A = ℕ} 0 1 = cc in omega arith)
-      go false (done a u) p e = absurd (let z : _≡_ {A = ℕ} 0 1 = cc in omega arith)
+      go true q p e = clash cc
+      go false (done a u) p e = clash cc
       go false (refused x) p e = let same : x ≡ NoRoom = cc in absurd (omega (arith, p same))
 
 room-for-all : (budget n : ℕ) (s : State) → Runnable s → budget * longestLine ≤ s .room → runFrom budget n s .answer ≡ Refused NoRoom → ⊥
@@ -73,14 +73,14 @@ unfolding runFrom onTurn
 room-for-all zero n s r h e = go (isFinished s) e
   where
     go : (b : Bool) → cond b Finished BudgetSpent ≡ Refused NoRoom → ⊥
-    go true e = absurd (let z : _≡_ {A = ℕ} 0 1 = cc in omega arith)
-    go false e = absurd (let z : _≡_ {A = ℕ} 0 1 = cc in omega arith)
+    go true e = clash cc
+    go false e = clash cc
 room-for-all (suc budget) n s r h e = go (turn s) refl (λ t k b. room-for-all budget (suc n) t k b) e
   where
     go : (t : Turn) → turn s ≡ t
         → ((u : State) → Runnable u → budget * longestLine ≤ u .room → runFrom budget (suc n) u .answer ≡ Refused NoRoom → ⊥)
         → onTurn {A = Outcome} t (outcome Finished n s) (λ x. outcome (Refused x) n s) (λ u. runFrom budget (suc n) u) .answer ≡ Refused NoRoom → ⊥
-    go finishes q ih e = absurd (let z : _≡_ {A = ℕ} 0 1 = cc in omega arith)
+    go finishes q ih e = clash cc
     go (stops x) q ih e = let same : x ≡ NoRoom = cc in stops-not s r (omega arith) (q ∙ ap stops same)
     go (continues t) q ih e = let k = goes-on s r t q in ih t (k .runnable) (omega (arith, k .room)) e
 

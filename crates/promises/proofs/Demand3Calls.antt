@@ -1,6 +1,6 @@
 -- Demand 3 of the calls plain::preserve, plain::copy, plain::erase and plain::walk, in their own words: numbers, answers, and the cells that
 -- a walk met. Each statement can be read without its proof.
-use Rattle.paper.proofs.Kit.{ℕ, _+_, _≤_, _≡_, refl, sym, ap, subst, _∙_, Bool, true, false, List, [], _∷_, reverse, _≢_, some, arith, length, take}
+use Rattle.paper.proofs.Kit.{clash, ℕ, _+_, _≤_, _≡_, refl, sym, ap, subst, _∙_, Bool, true, false, List, [], _∷_, reverse, _≢_, some, arith, length, take}
 use Rattle.paper.proofs.Kit.{length-reverse, take-append-seam}
 use Rattle.paper.specs.declared.Refusal.{Refusal}
 use Rattle.paper.specs.declared.RunAnswer.{RunAnswer}
@@ -45,11 +45,11 @@ way r s = bySize (sizeFits (length s)) refl
   where
     bySound : sizeFits (length s) ≡ true → (b : Bool) → storeSound r s ≡ b → Way r s
     bySound e true f = passed (record { size = e; sound = f; end = refl })
-    bySound e false f = answered NotSound (unfit-unsound r s e f) (λ p. let z : _≡_ {A = ℕ} 0 1 = cc in omega arith)
+    bySound e false f = answered NotSound (unfit-unsound r s e f) (λ p. clash cc)
 
     bySize : (b : Bool) → sizeFits (length s) ≡ b → Way r s
     bySize true e = bySound e (storeSound r s) refl
-    bySize false e = answered BadSize (unfit-size r s e) (λ p. let z : _≡_ {A = ℕ} 0 1 = cc in omega arith)
+    bySize false e = answered BadSize (unfit-size r s e) (λ p. clash cc)
 
 -- a call that finished was lent a store that passes
 finished-passed : (r : Regions) (s : List ℕ) → ((a : RunAnswer) → unfit r s ≡ some a → a ≡ Finished) → Passed r s (endOfRegions (regionsOf r) firstDeck)
@@ -83,7 +83,7 @@ module _ (c : ℕ) (r : Regions) (s : List ℕ) {met : Met} (allowed : met ≡ w
           → (back : List ℕ) × (walkBack c (stateWith r s [] 0) ≡ done back (stateWith r s [] 0)) × (met .n ≡ length back)
       go (refused q) e =
           let m : metOf (afterWalk (refused q)) ≡ met = ap (λ x. metOf (afterWalk x)) (sym e) ∙ walks c r s p ∙ sym allowed in
-          let z : _≡_ {A = ℕ} 0 1 = cc in absurd (omega arith)
+          clash cc
       go (done back t) e =
           let t-is = when-done (r-walkBack c) (stateWith r s [] 0) t back refl e .0 in
           (back, e ∙ ap (done back) t-is, cells-met (reverse back) (walk-met p e) .1 ∙ length-reverse back)

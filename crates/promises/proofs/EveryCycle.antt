@@ -1,7 +1,7 @@
 -- Demands 1 and 2 of the call machine::run, cycle by cycle: "After every cycle the free cells are exactly those on the H2 list, each once."
 -- A run with a budget of k is what shows the store after k cycles. Each statement can be read without its proof.
-use Rattle.paper.proofs.Kit.{ℕ, zero, suc, _+_, _-_, _≤_, _≡_, refl, sym, ap, subst, _∙_, Bool, true, false, List, [], inl, inr, none, some, arith, length}
-use Rattle.paper.proofs.Kit.{take, drop, take-append-seam}
+use Rattle.paper.proofs.Kit.{clash, ℕ, zero, suc, _+_, _-_, _≤_, _≡_, refl, sym, ap, subst, _∙_, Bool, true, false, List, [], inl, inr, none, some, arith}
+use Rattle.paper.proofs.Kit.{length, take, drop, take-append-seam}
 use Rattle.paper.specs.declared.Refusal.{Refusal}
 use Rattle.paper.specs.declared.RunAnswer.{RunAnswer}
 use Rattle.paper.specs.declared.RunAnswer.the-variants.{Finished, BudgetSpent, Refused}
@@ -48,15 +48,15 @@ unfolding afterCycles onTurn
 cycles-then zero s t u p q = go (turn t) refl (let e : s ≡ t = cc in rw e at q)
   where
     go : (x : Turn) → turn t ≡ x → onTurn x none (λ _. none) (λ t. some t) ≡ some u → turn t ≡ continues u
-    go finishes e h = let z : _≡_ {A = ℕ} 0 1 = cc in absurd (omega arith)
-    go (stops r) e h = let z : _≡_ {A = ℕ} 0 1 = cc in absurd (omega arith)
+    go finishes e h = clash cc
+    go (stops r) e h = clash cc
     go (continues v) e h = let w : v ≡ u = cc in e ∙ ap continues w
 cycles-then (suc k) s t u p q = go (turn s) p q (λ v. cycles-then k v t u)
   where
     go : (x : Turn) → onTurn x none (λ _. none) (λ v. afterCycles k v) ≡ some t → onTurn x none (λ _. none) (λ v. afterCycles (suc k) v) ≡ some u
         → ((v : State) → afterCycles k v ≡ some t → afterCycles (suc k) v ≡ some u → turn t ≡ continues u) → turn t ≡ continues u
-    go finishes p q f = let z : _≡_ {A = ℕ} 0 1 = cc in absurd (omega arith)
-    go (stops r) p q f = let z : _≡_ {A = ℕ} 0 1 = cc in absurd (omega arith)
+    go finishes p q f = clash cc
+    go (stops r) p q f = clash cc
     go (continues v) p q f = f v p q
 
 -- so many cycles given as the budget are done, and come where so many cycles come
@@ -241,7 +241,7 @@ module _ (regions : Regions) (s out : List ℕ) (at : ℕ) (size : sizeFits (len
               in-form regions s′ (take n out′) (length out′ - n) (tabled regions s size passes) f ∙ ap sound (sym j) ∙ l .runnable .test,
               sym (unpacked-length s′) ∙ ap (λ (w : State). length (w .cells)) (sym j) ∙ l .within .cells ∙ unpacked-length s,
             )
-        go (refused q) l p = let z : _≡_ {A = ℕ} 0 1 = cc in absurd (omega arith)
+        go (refused q) l p = clash cc
 
     -- of every outcome that the contract of cycle::cycle allows
     pub cycle-leaves : {s′ out′ log order marks : List ℕ} (c : Cycled)

@@ -1,7 +1,7 @@
 -- Demand 3 inside a cycle: whenever a cycle is accepted whose order executes J72, J71 or J74, it has done to the store what that process
 -- does, and besides that H1 has got the LINK. Each statement can be read without its proof.
-use Rattle.paper.proofs.Kit.{ℕ, suc, _-_, _<_, _≤_, _≡_, refl, sym, ap, subst, _∙_, Bool, true, false, List, [], _∷_, reverse, _≢_, arith, ne-eqb, length}
-use Rattle.paper.proofs.Kit.{set}
+use Rattle.paper.proofs.Kit.{clash, ℕ, suc, _-_, _<_, _≤_, _≡_, refl, sym, ap, subst, _∙_, Bool, true, false, List, [], _∷_, reverse, _≢_, arith, ne-eqb}
+use Rattle.paper.proofs.Kit.{length, set}
 use Rattle.paper.specs.declared.Refusal.{Refusal}
 use Rattle.paper.specs.declared.Symbol.{Symbol}
 use Rattle.paper.specs.Limits.{firstDeck}
@@ -121,7 +121,7 @@ module _ (s : State) (r : Runnable s) (n : ℕ) (few : J n < firstDeck) (m : Act
         go : (y : Res State Refusal (Unit {0})) → m s ≡ y → (u : State) × (m s ≡ done tt u) × (t ≡ goingTo (nameIn (u .regions) l) u)
         go (refused q) h =
             let f = stopped q (operates ∙ refused-too (λ z. execute (length (s .cells)) z) q h) in
-            let z : _≡_ {A = ℕ} 0 1 = cc in absurd (omega arith)
+            clash cc
         go (done v u) h =
             let f = cycle-is ∙ after-bind (operate 0 (o .x)) s (operates ∙ done-too (λ z. execute (length (s .cells)) z) u h) (advance l) ∙ advanced u in
             (u, h, cc)
@@ -171,9 +171,9 @@ turn-done t u e = go (isFinished t) (cycle (alone t)) refl e
   where
     go : (b : Bool) (x : Res State Refusal (Unit {0})) → cycle (alone t) ≡ x
         → elim b as (λ _. Turn) [ true ↦ finishes | false ↦ afterCycle t x ] ≡ continues u → (v : State) × (cycle (alone t) ≡ done tt v) × (joined t v ≡ u)
-    go true x p q = let z : _≡_ {A = ℕ} 0 1 = cc in absurd (omega arith)
+    go true x p q = clash cc
     go false (done a v) p q = (v, p, cc)
-    go false (refused r) p q = let z : _≡_ {A = ℕ} 0 1 = cc in absurd (omega arith)
+    go false (refused r) p q = clash cc
 
 -- an erasure prints nothing
 erased-alone : {l : ℕ} {m : Act (List ℕ)} (t : State) {u v : State} → joined t v ≡ u → ErasesIn l m (alone t) v → ErasesIn l m (alone t) (alone u)

@@ -1,6 +1,7 @@
 -- What a run prints, of every outcome that the contract of machine::run allows: whole lines, and how much by the longest of them (CR 3). Each
 -- statement can be read without its proof.
-use Rattle.paper.proofs.Kit.{ℕ, _*_, _≤_, _≡_, refl, ap, subst, sym, _∙_, Bool, true, false, List, [], Option, none, some, arith, length, take, drop, take-append-seam}
+use Rattle.paper.proofs.Kit.{clash, ℕ, _*_, _≤_, _≡_, refl, ap, subst, sym, _∙_, Bool, true, false, List, [], Option, none, some, arith, length, take, drop}
+use Rattle.paper.proofs.Kit.{take-append-seam}
 use Rattle.paper.specs.declared.Refusal.{Refusal}
 use Rattle.paper.specs.declared.Refusal.the-variants.{NoRoom}
 use Rattle.paper.specs.declared.RunAnswer.{RunAnswer}
@@ -25,9 +26,9 @@ not-asked r s e h = go (sizeFits (length s)) (storeSound r s) h
       | false ↦ some BadSize
       | true ↦ elim b as (λ _. Option RunAnswer) [ false ↦ some NotSound | true ↦ none ]
     ] ≡ some (Refused e) → ⊥
-    go true true h = let z : _≡_ {A = ℕ} 0 1 = cc in absurd (omega arith)
-    go true false h = let z : _≡_ {A = ℕ} 0 1 = cc in absurd (omega arith)
-    go false b h = let z : _≡_ {A = ℕ} 0 1 = cc in absurd (omega arith)
+    go true true h = clash cc
+    go true false h = clash cc
+    go false b h = clash cc
 
 module _ (r : Regions) (budget : ℕ) (s out : List ℕ) where
   -- what is so of a run by the definition, and of one that does nothing, is so of the call

@@ -1,5 +1,5 @@
 -- The whole test from its parts: the table and cell 0, the one pass over the cells, and the free list.
-use Rattle.paper.proofs.Kit.{ℕ, _≤_, Bool, true, false, cond, _&&_, and-assoc, and-false, List, [], _∷_, _≡_, refl, ap, sym, _∙_, arith, eq-eqb, eqb-true}
+use Rattle.paper.proofs.Kit.{clash, ℕ, _≤_, Bool, true, false, cond, _&&_, and-assoc, and-false, List, [], _∷_, _≡_, refl, ap, sym, _∙_, eq-eqb, eqb-true}
 use Rattle.paper.proofs.Kit.{leb-true, le-leb, leb, eqb, length}
 use Rattle.paper.specs.Limits.{smallestN, largestN, firstDeck}
 use Rattle.paper.specs.Cell.{endOfRegions, sizeFits}
@@ -25,12 +25,12 @@ regroup true false r z c l = sym (and-false (r && z))
 regroup false f r z c l = refl
 
 tally-unsound : (b : Bool) (n : ℕ) → cond b (Free n) Unsound ≡ Unsound → b ≡ false
-tally-unsound true n e = let z : _≡_ {A = ℕ} 0 1 = cc in absurd (omega arith)
+tally-unsound true n e = clash cc
 tally-unsound false n e = refl
 
 tally-free : (b : Bool) (n k : ℕ) → cond b (Free n) Unsound ≡ Free k → (b ≡ true) × (n ≡ k)
 tally-free true n k e = (refl, cc)
-tally-free false n k e = let z : _≡_ {A = ℕ} 0 1 = cc in absurd (omega arith)
+tally-free false n k e = clash cc
 
 module _ (r : Regions) (s : List ℕ) where
   abbrev end : ℕ

@@ -1,5 +1,5 @@
 -- Laws of `To`: a line of a block, then the rest of it.
-use Rattle.paper.proofs.Kit.{_≡_, refl, ap, _∙_, Option, none, some, ℕ, true, arith}
+use Rattle.paper.proofs.Kit.{clash, _≡_, refl, ap, _∙_, Option, none, some, true}
 use Rattle.paper.specs.Step.{done, refused, Step, _>>=_, _>>_, ret, refuse, refuseIf}
 use Rattle.steps.specs.Follows.{left, To}
 use Rattle.steps.proofs.Steps.{bind-same, then-same}
@@ -86,9 +86,9 @@ module _ {S E A : Type 0} where
   the-refusal : (t : S) (z : E) (v : A) (a r : Option E) → (left a >> refuseIf true z) t ≡ (left r >> ret (tt {0})) t
       → (left a >> refuse z) t ≡ (left r >> ret v) t
   unfolding left _>>_ ret refuse refuseIf
-  the-refusal t z v none none p = absurd (let q : _≡_ {A = ℕ} 0 1 = cc in omega arith)
+  the-refusal t z v none none p = clash cc
   the-refusal t z v none (some e) p = let q : z ≡ e = cc in ap (λ (d : E). refused d) q
-  the-refusal t z v (some d) none p = absurd (let q : _≡_ {A = ℕ} 0 1 = cc in omega arith)
+  the-refusal t z v (some d) none p = clash cc
   the-refusal t z v (some d) (some e) p = let q : d ≡ e = cc in ap (λ (d : E). refused d) q
 
   pub to-refuse : {t : S} (z : E) {v : A} {a r : Option E} → To (refuseIf true z) t a t r (tt {0}) → To (refuse z) t a t r v

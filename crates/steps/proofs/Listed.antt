@@ -1,6 +1,6 @@
 -- The list of processes, by the ranges of numbers that a decision names: which entry has them all, or that none has any.
-use Rattle.paper.proofs.Kit.{_||_, ℕ, _-_, _<_, _≤_, _≡_, refl, _∙_, _≢_, Bool, true, false, cond, _&&_, List, [], _∷_, Option, none, some, arith, leb-true}
-use Rattle.paper.proofs.Kit.{ltb-true, eqb-true, le-leb, lt-leb, leb, ltb, eqb}
+use Rattle.paper.proofs.Kit.{clash, _||_, ℕ, _-_, _<_, _≤_, _≡_, refl, _∙_, _≢_, Bool, true, false, cond, _&&_, List, [], _∷_, Option, none, some, arith}
+use Rattle.paper.proofs.Kit.{leb-true, ltb-true, eqb-true, le-leb, lt-leb, leb, ltb, eqb}
 use Rattle.paper.specs.declared.Refusal.the-variants.{NotListed}
 use Rattle.paper.specs.Cell.{J}
 use Rattle.paper.specs.Act.{refuse, ifThen}
@@ -41,7 +41,7 @@ apart f u n e z = go (leb f n) refl
 
 pub entry-does : (es : List Entry) (e : Entry) (a b n : ℕ) → entryFor es a b ≡ some e → a ≤ n → n ≤ b → e .does (n - e .from) ≡ performIn es n
 unfolding entryFor performIn
-entry-does [] e a b n h p q = absurd (let z : _≡_ {A = ℕ} 0 1 = cc in omega arith)
+entry-does [] e a b n h p q = clash cc
 entry-does (x ∷ es) e a b n h p q = go (leb (x .from) a && leb b (x .upTo)) refl (ltb (x .upTo) a || ltb b (x .from)) refl h (entry-does es e a b n)
   where
     here : leb (x .from) a && leb b (x .upTo) ≡ true
@@ -64,7 +64,7 @@ entry-does (x ∷ es) e a b n h p q = go (leb (x .from) a && leb b (x .upTo)) re
         → e .does (n - e .from) ≡ ifThen (leb (x .from) n && leb n (x .upTo)) (x .does (n - x .from)) (performIn es n)
     go true t d u h k = let s : x ≡ e = cc in rw (← s) (here t)
     go false t true u h k = k h p q ∙ if-no _ (past u)
-    go false t false u h k = absurd (let z : _≡_ {A = ℕ} 0 1 = cc in omega arith)
+    go false t false u h k = clash cc
 
 pub none-does : (es : List Entry) (a b n : ℕ) (ks : List ℕ) → noneFor es a b ks ≡ true → a ≤ n → n ≤ b
     → Rest (Unit {0}) ks n → refuse (NotListed (J n)) ≡ performIn es n

@@ -1,6 +1,6 @@
 -- Taking a new cell for each old one and then copying is `copyInto`, where the free list goes over new cells, each once: the empty words
 -- that stand in them in between are written over, and no old cell is one of them.
-use Rattle.paper.proofs.Kit.{ℕ, zero, suc, _<_, _≡_, refl, sym, ap, _∙_, subst, Bool, true, false, List, [], _∷_, map, _≢_, Option, arith, eqb-true}
+use Rattle.paper.proofs.Kit.{clash, ℕ, zero, suc, _<_, _≡_, refl, sym, ap, _∙_, subst, Bool, true, false, List, [], _∷_, map, _≢_, Option, arith, eqb-true}
 use Rattle.paper.proofs.Kit.{eqb-false, ltb-true, ltb-false, ne-eqb, eq-eqb, eqb, ltb, length, set, length-set, List·getD-eq-default, getD-set-same}
 use Rattle.paper.proofs.Kit.{getD-set-other, set-set, set-comm, set-getD, set-out, ext-getD}
 use Rattle.paper.specs.declared.Refusal.{Refusal}
@@ -95,7 +95,7 @@ same-pasted new (o ∷ os) A B l f g =
         ∙ sym (getD-set-other B (new o) k (copied new (cellAt A o)) (free 0) n)
 
 in-range : (cs : List Cell) (n : ℕ) (v : Word) → cellAt cs n ≡ word v → n < length cs
-in-range [] n v e = absurd (let z : _≡_ {A = ℕ} 0 1 = cc in omega arith)
+in-range [] n v e = clash cc
 in-range (y ∷ cs) zero v e = omega arith
 in-range (y ∷ cs) (suc n) v e = let h = in-range cs n v e in omega arith
 

@@ -1,5 +1,5 @@
 -- A loop with fuel: whatever the rest of it comes to, the whole comes to. And what is known where a reading was not refused.
-use Rattle.paper.proofs.Kit.{ℕ, zero, suc, _<_, _≤_, _≡_, refl, ap, subst, List, [], Option, none, some, arith, length}
+use Rattle.paper.proofs.Kit.{clash, ℕ, zero, suc, _<_, _≤_, _≡_, refl, ap, subst, List, [], Option, none, some, arith, length}
 use Rattle.paper.specs.declared.Refusal.{Refusal}
 use Rattle.paper.specs.Cell.{State, Word, wordIn}
 use Rattle.paper.specs.Act.{Act, Res, done, _>>_, ret, refuse, own, sized}
@@ -40,7 +40,7 @@ module _ {A : Type 0} (M : Act A) (s : List ℕ) (v : A) (P : A → Type 0) (J :
   came : (a : Option Refusal) (t : State) → (left a >> M) t ≡ (left (told 0) >> ret v) t → M t ≡ done v t
   unfolding left told _>>_ ret refuse
   came none t p = p
-  came (some z) t p = absurd (let q : _≡_ {A = ℕ} 0 1 = cc in omega arith)
+  came (some z) t p = clash cc
 
   pub known : Safe (λ t. t .cells ≡ unpacked s) P J M → {a : Option Refusal} → Follows reading Always 0 M s a s (told 0) v → P v
   known f {a} d =
