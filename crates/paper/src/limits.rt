@@ -40,10 +40,7 @@ pub const CELL_DIGITS: usize = 5;
 
 pub const MOST_DIGITS: usize = 10;
 
-// The longest line of a symbol: `9-`, the number of a cell, a line feed.
-pub const LONGEST_SYMBOL_LINE: usize = 2 + CELL_DIGITS + 1;
-
-// The longest line of all, an integer's: `-`, its digits, a line feed.
+// The longest line, an integer's: `-`, its digits, a line feed.
 pub const LONGEST_LINE: usize = 1 + MOST_DIGITS + 1;
 
 // The program prints its lines and the answer's.

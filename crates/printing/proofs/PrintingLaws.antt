@@ -5,7 +5,7 @@ use Rattle.paper.proofs.Kit.{length-take-le}
 use Rattle.paper.specs.declared.Refusal.{Refusal}
 use Rattle.paper.specs.declared.Refusal.the-variants.{NoRoom}
 use Rattle.paper.specs.declared.Symbol.{Symbol}
-use Rattle.paper.specs.Limits.{firstDeck}
+use Rattle.paper.specs.Limits.{firstDeck, longestLine}
 use Rattle.paper.specs.Region.{Region, endOfRegions}
 use Rattle.paper.specs.Cell.{State}
 use Rattle.paper.specs.Act.{Act, _>>=_, refuseIf, asks, pop}
@@ -71,7 +71,7 @@ module _ {A : Type 0} {table d d′ : List ℕ} {M : Act A} {x y : List ℕ × L
       }
 
 -- the first n bytes of a line are printed with a line feed, and H0 popped
-module _ {line line′ : List ℕ} {n len : ℕ} (short : n < length line) (w : Writes line n (10 ∷ []) line′ len) where
+module _ {line line′ : List ℕ} {n len : ℕ} (sized : length line ≡ longestLine) (short : n < longestLine) (w : Writes line n (10 ∷ []) line′ len) where
   pub line-pops : {rs : List Region} {top : ℕ} {x y : List ℕ × List ℕ} {a b r : Option Refusal} (room : ℕ)
       → Judged {S = State} steps.Always (refuseIf (ltb room len) NoRoom) a b → Follows lent (Top top) 1 pop x b y r tt → endOfRegions rs firstDeck ≡ top
       → Follows telling (Hears rs room) 1 (printPop (take n line)) (x, []) a (y, take len line′) r tt

@@ -21,10 +21,6 @@ writes-none l at = record { text = sym (append-nil (take at l)); end = omega ari
 pub writes-one : (l : List ℕ) (at b : ℕ) → at < length l → Writes l at (b ∷ []) (set l at b) (at + 1)
 writes-one l at b h = record { text = rw add-one (take-suc-set l at b h); end = refl; sized = length-set l at b }
 
--- a byte that is set leaves the length
-pub set-holds : {n : ℕ} (l : List ℕ) (i b : ℕ) → n ≤ length l → n ≤ length (set l i b)
-set-holds l i b h = omega (arith, length-set l i b)
-
 pub writes-more : {l l₁ l₂ : List ℕ} {at m r : ℕ} {t u : List ℕ} → Writes l at t l₁ m → Writes l₁ m u l₂ r → Writes l at (t ++ u) l₂ r
 writes-more {l} {at = at} {t = t} {u = u} p q =
     record {
@@ -52,29 +48,23 @@ unfolding digitsBy
 digits-more zero n z h = absurd (z refl)
 digits-more (suc k) n z h = let p : suc k - 1 ≡ k = omega arith in rw (le-ltb n 10 h, p, digitsBy)
 
--- a text: another that is the same, or from the same line; the digits of a number, alone or after a byte
-pub text-as : {l l′ : List ℕ} {r : ℕ} {t u : List ℕ} → t ≡ u → Text l t l′ r → Text l u l′ r
-text-as {l} {l′} {r} p w = subst (λ t. Text l t l′ r) p w
+-- a text: another that is the same, within a larger bound; the digits of a number, alone or after a byte or two
+pub text-as : {j k : ℕ} {l l′ : List ℕ} {r : ℕ} {t u : List ℕ} → j ≤ k → t ≡ u → Text j l t l′ r → Text k l u l′ r
+text-as {k = k} {l} {l′} {r} h p w = record { writes = writes-as p (w .writes); short = omega (arith, w .short) }
 
-pub text-from : {k l l′ : List ℕ} {r : ℕ} {t : List ℕ} → l ≡ k → Text l t l′ r → Text k t l′ r
-text-from {l′ = l′} {r = r} {t = t} p w = subst (λ l. Text l t l′ r) p w
+pub text-digits : {l l′ : List ℕ} {r : ℕ} (k n : ℕ) → Writes l 0 (digitsBy k n) l′ r → Text (k + 1) l (digitsBy k n) l′ r
+text-digits k n w = record { writes = w; short = omega (arith, w .end, digits-length k n) }
 
-pub text-digits : {l l′ : List ℕ} {r : ℕ} (k n : ℕ) → k < length l → Writes l 0 (digitsBy k n) l′ r → Text l (digitsBy k n) l′ r
-text-digits k n h w = record { writes = w; short = omega (arith, w .end, w .sized, digits-length k n) }
+pub text-lettered : {l l′ : List ℕ} {r : ℕ} (b k n : ℕ) → 0 < length l → Writes (set l 0 b) 1 (digitsBy k n) l′ r → Text (k + 2) l (b ∷ digitsBy k n) l′ r
+text-lettered {l} b k n h w = record { writes = writes-more (writes-one l 0 b h) w; short = omega (arith, w .end, digits-length k n) }
 
-pub text-lettered : {l l′ : List ℕ} {r : ℕ} (b k n : ℕ) → k + 1 < length l → Writes (set l 0 b) 1 (digitsBy k n) l′ r → Text l (b ∷ digitsBy k n) l′ r
-text-lettered {l} b k n h w =
-    let v = writes-more (writes-one l 0 b (omega arith)) w in
-    record { writes = v; short = omega (arith, w .end, v .sized, digits-length k n) }
-
-pub text-local : {l l′ : List ℕ} {r c : ℕ} (n : ℕ) → length l ≡ longestSymbolLine → (n ≡ c) × (n < 10 ^ cellDigits)
-    → Writes (set (set l 0 nineByte) 1 minusByte) 2 (digitsBy cellDigits n) l′ r → Text l (localText c) l′ r
+pub text-local : {l l′ : List ℕ} {r c : ℕ} (n : ℕ) → 1 < length l → (n ≡ c) × (n < 10 ^ cellDigits)
+    → Writes (set (set l 0 nineByte) 1 minusByte) 2 (digitsBy cellDigits n) l′ r → Text longestSymbolLine l (localText c) l′ r
 text-local {l} n h e w =
     let first = writes-one l 0 nineByte (omega arith) in
     let second = writes-one (set l 0 nineByte) 1 minusByte (omega (arith, first .sized)) in
-    let v = writes-more first (writes-more second w) in
     let same = ap (λ (t : List ℕ). nineByte ∷ minusByte ∷ t) (cell-digits n (e .1) ∙ ap digits (e .0)) in
-    record { writes = writes-as same v; short = omega (arith, w .end, v .sized, digits-length cellDigits n) }
+    record { writes = writes-as same (writes-more first (writes-more second w)); short = omega (arith, w .end, digits-length cellDigits n) }
 
 -- an integer from its excess
 pub integer-low : (v : ℕ) → v < 2 ^ 31 → 45 ∷ digits (2 ^ 31 - v) ≡ integerText (valueOf v)
@@ -118,7 +108,7 @@ pub paste-more : (d : List ℕ) (at : ℕ) (s : List ℕ) (j : ℕ) {l : List �
 paste-more d at s j h g e = rw (e, add-one) (paste-suc d at s j 0 h g)
 
 -- a text with its line feed, copied out
-pub puts-line : {l l₁ l₂ : List ℕ} {e len : ℕ} {t : List ℕ} (d : List ℕ) (at : ℕ) {d′ : List ℕ} {r : ℕ} → Text l t l₁ e → Writes l₁ e (10 ∷ []) l₂ len
+pub puts-line : {k : ℕ} {l l₁ l₂ : List ℕ} {e len : ℕ} {t : List ℕ} (d : List ℕ) (at : ℕ) {d′ : List ℕ} {r : ℕ} → Text k l t l₁ e → Writes l₁ e (10 ∷ []) l₂ len
     → r ≡ at + len → d′ ≡ paste d at l₂ len → Puts d at (t ++ (10 ∷ [])) d′ r
 puts-line {len = len} {t = t} d at text feed p q =
     let w = writes-more (text .writes) feed in

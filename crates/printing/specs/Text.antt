@@ -10,10 +10,10 @@ pub record Writes (l : List ℕ) (at : ℕ) (t : List ℕ) (l′ : List ℕ) (r 
   pub end : r ≡ at + length t
   pub sized : length l′ ≡ length l
 
--- the text of a line, from its start, with place left for the line feed
-pub record Text (l t l′ : List ℕ) (r : ℕ) : Type 0 where
+-- the text of a line, from its start: with its line feed k bytes at most
+pub record Text (k : ℕ) (l t l′ : List ℕ) (r : ℕ) : Type 0 where
   pub writes : Writes l 0 t l′ r
-  pub short : r < length l′
+  pub short : r < k
 
 -- t stands in d from `at` on, up to r; the other bytes are as they were
 pub record Puts (d : List ℕ) (at : ℕ) (t : List ℕ) (d′ : List ℕ) (r : ℕ) : Type 0 where

@@ -19,6 +19,9 @@ use paper::limits;
 use regions::Named;
 use regions::Table;
 
+// The scratch for a line.
+type Line = [u8; limits::LONGEST_LINE];
+
 // The verdict, and where the output ends.
 pub struct Printed {
     pub go: u32,
@@ -33,8 +36,8 @@ fn wide(x: u16) -> u32
 }
 
 // The decimal digits of n, or where k are too few its last k.
-fn digits(line: &mut [u8], at: usize, k: usize, n: u32) -> usize
-    requires { ⌜ at + k ≤ length (now line) ⌝ }
+fn digits(line: &mut Line, at: usize, k: usize, n: u32) -> usize
+    requires { ⌜ (length (now line) ≡ longestLine) × (at + k ≤ longestLine) ⌝ }
     ensures { λ r. ⌜ Writes (now (line .entry)) at (digitsBy k n) (now (line .exit)) r ⌝ }
 {
     if k == 0 {
@@ -50,26 +53,26 @@ fn digits(line: &mut [u8], at: usize, k: usize, n: u32) -> usize
 }
 
 // A number alone.
-fn number(line: &mut [u8], k: usize, n: u32) -> usize
-    requires { ⌜ k < length (now line) ⌝ }
-    ensures { λ r. ⌜ Text (now (line .entry)) (digitsBy k n) (now (line .exit)) r ⌝ }
+fn number(line: &mut Line, k: usize, n: u32) -> usize
+    requires { ⌜ (length (now line) ≡ longestLine) × (k < longestLine) ⌝ }
+    ensures { λ r. ⌜ Text (k + 1) (now (line .entry)) (digitsBy k n) (now (line .exit)) r ⌝ }
 {
     digits(line, 0, k, n)
 }
 
 // A letter or a sign, then a number.
-fn lettered(line: &mut [u8], letter: u8, k: usize, n: u32) -> usize
-    requires { ⌜ k + 1 < length (now line) ⌝ }
-    ensures { λ r. ⌜ Text (now (line .entry)) (letter ∷ digitsBy k n) (now (line .exit)) r ⌝ }
+fn lettered(line: &mut Line, letter: u8, k: usize, n: u32) -> usize
+    requires { ⌜ (length (now line) ≡ longestLine) × (k + 1 < longestLine) ⌝ }
+    ensures { λ r. ⌜ Text (k + 2) (now (line .entry)) (letter ∷ digitsBy k n) (now (line .exit)) r ⌝ }
 {
     line[0] = letter;
     digits(line, 1, k, n)
 }
 
 // The integer v - 2^31.
-fn integer_text(line: &mut [u8], v: u32) -> usize
+fn integer_text(line: &mut Line, v: u32) -> usize
     requires { ⌜ length (now line) ≡ longestLine ⌝ }
-    ensures { λ r. ⌜ Text (now (line .entry)) (integerText (valueOf v)) (now (line .exit)) r ⌝ }
+    ensures { λ r. ⌜ Text longestLine (now (line .entry)) (integerText (valueOf v)) (now (line .exit)) r ⌝ }
 {
     if v < cells::ZERO {
         return lettered(line, b'-', limits::MOST_DIGITS, cells::ZERO - v);
@@ -78,9 +81,9 @@ fn integer_text(line: &mut [u8], v: u32) -> usize
 }
 
 // A cell by its letter and number, or by its number alone.
-fn cell_text(line: &mut [u8], table: &Table, c: u16) -> usize
-    requires { ⌜ length (now line) ≡ longestSymbolLine ⌝ }
-    ensures { λ r. ⌜ Text (now (line .entry)) (cellText c (lettersOf (rowsOf (now (table .entry))) c)) (now (line .exit)) r ⌝ }
+fn cell_text(line: &mut Line, table: &Table, c: u16) -> usize
+    requires { ⌜ length (now line) ≡ longestLine ⌝ }
+    ensures { λ r. ⌜ Text longestSymbolLine (now (line .entry)) (cellText c (lettersOf (rowsOf (now (table .entry))) c)) (now (line .exit)) r ⌝ }
 {
     let x = regions::letters_of(table, c);
     match x {
@@ -90,9 +93,9 @@ fn cell_text(line: &mut [u8], table: &Table, c: u16) -> usize
 }
 
 // "`9-` and its number"
-fn local_text(line: &mut [u8], c: u16) -> usize
-    requires { ⌜ length (now line) ≡ longestSymbolLine ⌝ }
-    ensures { λ r. ⌜ Text (now (line .entry)) (localText c) (now (line .exit)) r ⌝ }
+fn local_text(line: &mut Line, c: u16) -> usize
+    requires { ⌜ length (now line) ≡ longestLine ⌝ }
+    ensures { λ r. ⌜ Text longestSymbolLine (now (line .entry)) (localText c) (now (line .exit)) r ⌝ }
 {
     line[0] = b'9';
     line[1] = b'-';
@@ -100,9 +103,9 @@ fn local_text(line: &mut [u8], c: u16) -> usize
 }
 
 // A symbol by its tag: local; regional; internal.
-fn symbol_text(line: &mut [u8], table: &Table, x: Symbol) -> usize
-    requires { ⌜ length (now line) ≡ longestSymbolLine ⌝ }
-    ensures { λ r. ⌜ Text (now (line .entry)) (symbolText (rowsOf (now (table .entry))) x) (now (line .exit)) r ⌝ }
+fn symbol_text(line: &mut Line, table: &Table, x: Symbol) -> usize
+    requires { ⌜ length (now line) ≡ longestLine ⌝ }
+    ensures { λ r. ⌜ Text longestSymbolLine (now (line .entry)) (symbolText (rowsOf (now (table .entry))) x) (now (line .exit)) r ⌝ }
 {
     if x.tag == Symbol::LOCAL {
         return local_text(line, x.num);
@@ -114,8 +117,8 @@ fn symbol_text(line: &mut [u8], table: &Table, x: Symbol) -> usize
 }
 
 // "then one line feed"
-fn end_line(line: &mut [u8], at: usize) -> usize
-    requires { ⌜ at < length (now line) ⌝ }
+fn end_line(line: &mut Line, at: usize) -> usize
+    requires { ⌜ (length (now line) ≡ longestLine) × (at < longestLine) ⌝ }
     ensures { λ r. ⌜ Writes (now (line .entry)) at (10 ∷ []) (now (line .exit)) r ⌝ }
 {
     line[at] = b'\n';
@@ -123,8 +126,8 @@ fn end_line(line: &mut [u8], at: usize) -> usize
 }
 
 // The line goes out, from byte `at` on.
-fn write_line(out: &mut [u8], at: usize, line: &[u8], len: usize) -> usize
-    requires { ⌜ (at + len ≤ length (now out)) × (len ≤ length (now line)) ⌝ }
+fn write_line(out: &mut [u8], at: usize, line: &Line, len: usize) -> usize
+    requires { ⌜ (at + len ≤ length (now out)) × (length (now line) ≡ longestLine) × (len ≤ longestLine) ⌝ }
     ensures { λ r. ⌜ (r ≡ at + len) × (now (out .exit) ≡ paste (now (out .entry)) at (now (line .entry)) len) ⌝ }
 {
     let mut i = 0;
@@ -140,7 +143,7 @@ pub fn number_line(out: &mut [u8], at: usize, n: u32) -> usize
     requires { ⌜ at + longestLine ≤ length (now out) ⌝ }
     ensures { λ r. ⌜ Puts (now (out .entry)) at (answerLine n) (now (out .exit)) r ⌝ }
 {
-    let mut line = [0u8; limits::LONGEST_LINE];
+    let mut line: Line = [0; limits::LONGEST_LINE];
     let end = number(&mut line, limits::MOST_DIGITS, n);
     let len = end_line(&mut line, end);
     write_line(out, at, &line, len)
@@ -154,10 +157,10 @@ fn print(
     out: &mut [u8],
     at: usize,
     go: u32,
-    line: &mut [u8],
+    line: &mut Line,
     n: usize,
 ) -> Printed
-    requires { ⌜ Room (now log) 1 × Told (now table) × (at ≤ length (now out)) × (n < length (now line)) ⌝ }
+    requires { ⌜ Room (now log) 1 × Told (now table) × (at ≤ length (now out)) × (length (now line) ≡ longestLine) × (n < longestLine) ⌝ }
     ensures { λ r. ⌜ Prints (printPop (take n (now (line .entry)))) cells log table out at go r tt ⌝ }
 {
     let len = end_line(line, n);
@@ -186,7 +189,7 @@ fn j152(
     ensures { λ r. ⌜ Prints J152 cells log table out at go r tt ⌝ }
 {
     let w = acts::own(cells, limits::H0);
-    let mut line = [0u8; limits::LONGEST_SYMBOL_LINE];
+    let mut line: Line = [0; limits::LONGEST_LINE];
     let n = symbol_text(&mut line, table, cells::symbol(w));
     print(cells, log, table, out, at, go, &mut line, n)
 }
@@ -205,7 +208,7 @@ fn j153(
 {
     let w = acts::own(cells, limits::H0);
     let i = acts::integer_at(cells, go, (w / cells::SYMB % 65536) as u16);
-    let mut line = [0u8; limits::LONGEST_LINE];
+    let mut line: Line = [0; limits::LONGEST_LINE];
     let n = integer_text(&mut line, i.v);
     print(cells, log, table, out, at, i.go, &mut line, n)
 }

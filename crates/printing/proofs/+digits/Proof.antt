@@ -1,5 +1,6 @@
 -- Recursion on the number of digits that are left.
-use Rattle.paper.proofs.Kit.{ℕ, _<_, _-_, _/_, length, arith, needs, In, Measures, is, falls, and}
+use Rattle.paper.proofs.Kit.{ℕ, _<_, _-_, _/_, arith, needs, In, Measures, is, falls, and}
+use Rattle.paper.specs.Limits.{longestLine}
 use Rattle.paper.proofs.LineLaws.{digits-length}
 use Rattle.printing.proofs.digits.Reads as digits
 use Rattle.printing.proofs.digits.Kinds as digits-kinds
@@ -22,32 +23,34 @@ module _ (t : ℕ) where
   returns c = writes-as (digits-none _ _ (c .if1 .taken)) (writes-none _ _)
 
   returns-2 : lts.Need-returns-2 (claims t) (at t) digits.Post
-  returns-2 c =
-      let c₁ = c .before in
-      let c₂ = c₁ .before .before in
-      writes-as (digits-one _ _ (c₁ .if1 .left) (c .if2 .taken)) (writes-one _ _ _ (omega (arith, c₂ .pre .1)))
+  returns-2 c = writes-as (digits-one _ _ (c .before .if1 .left) (c .if2 .taken)) (writes-one _ _ _ (omega (arith, c .before .before .pre .1 .0)))
 
   -- the byte after the first digits is within the line
-  within : (c : lts.After-digits (claims t) (at t) digits.Post) → c .digits .result < length (c .before .before .before .before .before .args .line .now)
+  within : (c : lts.After-digits (claims t) (at t) digits.Post) → c .digits .result < longestLine
   within c =
-      let a = c .before .before .before .before .before .args in
+      let a = c .before .before .before .before .args in
       omega (arith, c .digits .ensures .end, digits-length (a .k - 1) (a .n / 10))
-
-  digits-requires : lts.Need-digits-requires (claims t) (at t) digits.Post
-  digits-requires c κs = (omega arith, omega arith)
-
-  slice-write-line-2 : lts.Need-slice-write-line-2 (claims t) (at t) digits.Post
-  slice-write-line-2 c = omega (arith, within (c .before .before), c .before .before .digits .ensures .sized)
-
-  add-result-2 : lts.Need-add-result-2 (claims t) (at t) digits.Post
-  add-result-2 c = omega (arith, within (c .before .before))
 
   returns-3 : lts.Need-returns-3 (claims t) (at t) digits.Post
   returns-3 c =
-      let c₁ = c .before .before in
-      let c₂ = c₁ .before .before in
-      let w = c₁ .digits .ensures in
-      writes-as (digits-more _ _ (c₂ .before .if1 .left) (c₂ .if2 .left)) (writes-more w (writes-one _ _ _ (omega (arith, within c₁, w .sized))))
+      let more = digits-more _ _ (c .before .before .before .if1 .left) (c .before .before .if2 .left) in
+      let sized = c .before .before .before .before .pre .1 .0 in
+      writes-as more (writes-more (c .digits .ensures) (writes-one _ _ _ (omega (arith, within c, c .digits .ensures .sized, sized))))
+
+  element-write-line-2 : lts.Need-element-write-line-2 (claims t) (at t) digits.Post
+  element-write-line-2 c = within c
+
+  add-result-2 : lts.Need-add-result-2 (claims t) (at t) digits.Post
+  add-result-2 c = omega (arith, within c)
+
+  digits-requires : lts.Need-digits-requires (claims t) (at t) digits.Post
+  digits-requires c κs = (omega arith, (c .before .before .before .pre .1 .0, omega arith))
+
+  add-line : lts.Need-add-line (claims t) (at t) digits.Post
+  add-line c = omega arith
+
+  add-line-2 : lts.Need-add-line-2 (claims t) (at t) digits.Post
+  add-line-2 c = omega arith
 
 pub +digits-spec : {M : Type 1} → statement M
 +digits-spec =
@@ -59,16 +62,14 @@ pub +digits-spec : {M : Type 1} → statement M
     digits.Post
     (returns t)
     (λ c. search needs)
-    (λ c. omega arith)
-    (λ c. search needs)
+    (add-line t)
     (λ c. search needs)
     (λ c. search needs)
     (returns-2 t)
     (λ c. search needs)
     (digits-requires t)
     (λ c. search needs)
-    (λ c. omega arith)
-    (slice-write-line-2 t)
+    (add-line-2 t)
+    (element-write-line-2 t)
     (add-result-2 t)
-    (λ c. returns-3 t c .sized)
     (returns-3 t)

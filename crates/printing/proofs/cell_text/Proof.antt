@@ -1,21 +1,19 @@
 use Rattle.printing.proofs.TextLaws.{text-as, text-named, text-unnamed}
-use Rattle.paper.proofs.Kit.{needs}
+use Rattle.paper.proofs.Kit.{arith, needs}
 use Rattle.printing.proofs.cell_text.Statement.{statement}
 use Rattle.printing.proofs.cell_text.Tie as tie
 
 returns : tie.Need-returns
 returns c =
-    let c₁ = c .before .before in
-    let c₂ = c₁ .before in
-    let c₃ = c₂ .before .before .before in
-    text-as (text-named _ (c₃ .before .before .letters-of .ensures) (c₃ .x .given .1) (c₂ .wide .ensures)) (c₁ .lettered .ensures)
+    let c₁ = c .before in
+    let c₂ = c₁ .before .before .before in
+    text-as (omega arith) (text-named _ (c₂ .before .before .letters-of .ensures) (c₂ .x .given .1) (c₁ .wide .ensures)) (c .lettered .ensures)
 
 returns-2 : tie.Need-returns-2
 returns-2 c =
-    let c₁ = c .before .before in
-    let c₂ = c₁ .before in
-    let c₃ = c₂ .before .before in
-    text-as (text-unnamed _ (c₃ .before .before .letters-of .ensures) (c₃ .enum-told .given .1) (c₂ .wide2 .ensures)) (c₁ .number .ensures)
+    let c₁ = c .before in
+    let c₂ = c₁ .before .before in
+    text-as (omega arith) (text-unnamed _ (c₂ .before .before .letters-of .ensures) (c₂ .enum-told .given .1) (c₁ .wide2 .ensures)) (c .number .ensures)
 
 pub cell-text-spec : {M : Type 1} → statement M
 cell-text-spec =
@@ -28,7 +26,5 @@ cell-text-spec =
     (λ c. search needs)
     (λ c κs. search needs)
     (λ c κs. search needs)
-    (λ c. returns c .writes .sized)
     returns
-    (λ c. returns-2 c .writes .sized)
     returns-2)

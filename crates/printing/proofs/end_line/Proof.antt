@@ -7,4 +7,4 @@ returns : tie.Need-returns
 returns c = writes-one _ _ _ (omega arith)
 
 pub end-line-spec : {M : Type 1} → statement M
-end-line-spec = tie.close (tie.spec (λ c. search needs) (λ c. search needs) (λ c. search needs) returns)
+end-line-spec = tie.close (tie.spec (λ c. search needs) (λ c. search needs) returns)

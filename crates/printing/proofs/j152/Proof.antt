@@ -9,8 +9,8 @@ use Rattle.printing.proofs.j152.Tie as tie
 returns : tie.Need-returns
 unfolding J152
 returns c =
-    let c₁ = c .before .before .before .before .before .before .before in
-    let c₂ = c₁ .before .before .before .before .before .before in
+    let c₁ = c .before .before .before .before .before .before in
+    let c₂ = c₁ .before .before .before .before .before in
     let c₃ = c₂ .before in
     let c₄ = c₃ .before .before in
     let text = c₂ .symbol-text .ensures .writes .text ∙ ap (symbolText _) (c₃ .symbol .ensures) in
@@ -21,10 +21,8 @@ j152-spec =
     tie.close
     (tie.spec
     (λ c κs. search needs)
-    (λ c. search needs)
     (λ c κs. search needs)
     (λ c κs. search needs)
-    (λ c. search needs)
     (λ c κs. search needs)
     (λ c. search needs)
     (λ c. search needs)

@@ -8,8 +8,8 @@ use Rattle.printing.proofs.j153.Tie as tie
 returns : tie.Need-returns
 unfolding J153
 returns c =
-    let c₁ = c .before .before .before .before .before .before .before in
-    let c₂ = c₁ .before .before .before .before .before .before in
+    let c₁ = c .before .before .before .before .before .before in
+    let c₂ = c₁ .before .before .before .before .before in
     let c₃ = c₂ .before .before in
     let c₄ = c₃ .before .before in
     let text = c₂ .integer-text .ensures .writes .text in
@@ -22,9 +22,7 @@ j153-spec =
     (λ c κs. search needs)
     (λ c. search needs)
     (λ c κs. search needs)
-    (λ c. search needs)
     (λ c κs. search needs)
-    (λ c. search needs)
     (λ c κs. search needs)
     (λ c. search needs)
     (λ c. search needs)

@@ -4,9 +4,7 @@ use Rattle.printing.proofs.number.Statement.{statement}
 use Rattle.printing.proofs.number.Tie as tie
 
 returns : tie.Need-returns
-returns c =
-    let c₁ = c .before .before in
-    text-digits _ _ (c₁ .before .before .before .pre) (c₁ .digits .ensures)
+returns c = text-digits _ _ (c .digits .ensures)
 
 pub number-spec : {M : Type 1} → statement M
-number-spec = tie.close (tie.spec (λ c κs. search needs) (λ c. returns c .writes .sized) returns)
+number-spec = tie.close (tie.spec (λ c κs. search needs) returns)
