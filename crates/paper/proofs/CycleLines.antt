@@ -6,22 +6,26 @@ use Rattle.paper.specs.Cell.{Symbol, regional, Word, wordIn, State}
 use Rattle.paper.specs.Act.{Act, Refusal, sized, symbolIn, symbolInThat, designate}
 use Rattle.paper.specs.Process.{perform}
 use Rattle.paper.specs.Cycle.{Control, goesOn, moved, Next, then, executing, after, descend, finish, performs, execute, executes, copyTo, putIn, goTo}
-use Rattle.paper.specs.Cycle.{branch, operate, toLink, advance, obey, direct, interpret, linkOf, ascend, cycle}
+use Rattle.paper.specs.Cycle.{branch, operate, toLink, advance, obey, direct, interpret, linkOf, ascend, work, count, cycle}
 use Rattle.paper.specs.Sound.{sound}
 use Rattle.paper.proofs.Safe.{After, Safe, safe-refuseIf}
 use Rattle.paper.proofs.SoundStore.{Frame}
-use Rattle.paper.proofs.ActLaws.{Ok, s-own, s-touch, s-notOwn, s-designate}
+use Rattle.paper.proofs.ActLaws.{Ok, own-H1, s-own, s-touch, s-notOwn, s-designate}
 use Rattle.paper.proofs.PerformLaws.{NextOk, s-perform}
 use Rattle.paper.proofs.BookLaws.{choose-both, choose-last}
 use Rattle.paper.proofs.CycleLaws.{the-word}
 use Rattle.paper.proofs.Demand1.{Runnable}
 use Rattle.paper.proofs.SoundTest.{sound-from}
-use Rattle.paper.proofs.QuietLaws.{Same, Still, Quiet, q-ret, q-check, q-refuse, q-bind, q-seq, q-if, q-own, q-touch, q-notOwn, q-nameOf, q-readAt}
+use Rattle.paper.proofs.QuietLaws.{Same, Still, Quiet, q-ret, q-check, q-refuse, q-bind, q-seq, q-if, q-peek, q-put, q-own, q-touch, q-notOwn, q-nameOf, q-readAt}
 use Rattle.paper.proofs.QuietLaws.{q-preserve, q-restore, q-store, q-ownPreserve, q-ownRestore, q-ownStore, q-push, q-pop}
 use Rattle.paper.proofs.PrintLaws.{Printed, other, no-30, unprinted, printed-from, printed-to}
 use Rattle.paper.proofs.ListedLaws.{Scarce, Leaves, perform-leaves}
 
 -- what does not print, in a cycle
+q-count : Quiet count
+unfolding count
+q-count = q-bind (q-peek _) λ x. q-put _ _
+
 q-descend : (x : Symbol) → Quiet (descend x)
 unfolding descend
 q-descend x = q-seq (q-ownPreserve _) (q-seq (q-ownStore _ x) (q-ret _))
@@ -118,6 +122,10 @@ module _ {I : State → Type 0} where
       go s (done a t) p = few-to p (f a t) (k a .at t)
       go s (refused e) p = p
 
+  few-seq : {A B : Type 0} {m : Act A} {n : Act B} → Bounded I m → Quiet n → Bounded I (m >> n)
+  unfolding _>>=_ _>>_
+  few-seq h k = few-bind h (λ _. k)
+
   few-if : {A : Type 0} (b : Bool) {m n : Act A} → (b ≡ true → Bounded I m) → (b ≡ false → Bounded I n) → Bounded I (ifThen b m n)
   unfolding ifThen
   few-if true h k = record { at = λ s i. h refl .at s i }
@@ -174,9 +182,13 @@ module _ {F : Frame} where
       few-if _ (λ _. few-bind (few-executes (regional c)) λ d. q-advance _ d)
       (λ p. few-obey c (wordIn x) (the-word F c x e p (h .kept) (h .holds) .symb<))
 
+  few-work : {us : List ℕ} → Bounded (Ok F us) work
+  unfolding work
+  few-work = quiet-bind (q-own _) (s-own 2 own-H1) λ h _. few-if _ (λ _. quiet q-ascend) (λ _. few-interpret _)
+
   few-cycle : {us : List ℕ} → Bounded (Ok F us) cycle
   unfolding cycle
-  few-cycle = quiet-bind (q-own _) (s-own 2 (omega arith)) λ h _. few-if _ (λ _. quiet q-ascend) (λ _. few-interpret _)
+  few-cycle = few-seq few-work q-count
 
 -- so of every cycle
 pub cycle-line : (s : State) → Runnable s → Few s (cycle s)

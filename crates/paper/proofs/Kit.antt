@@ -7,7 +7,7 @@ pub use borrow.Fn.Kinds.{In}
 pub use borrow.Fn.PlainCycle.{Measures, and, falls, is}
 pub use denote.Enum.Declared.{tagOf}
 pub use lib.Dec.{eqb, leb, lit≤, ltb}
-pub use lib.IntN.{+ℤ-idl, _+ℤ_, _-ℤ_, negsuc, negℤ, pos, subℕ, ℤ}
+pub use lib.IntN.{+ℤ-assoc, +ℤ-idl, +ℤ-idr, +ℤ-one, _+ℤ_, _-ℤ_, negsuc, negℤ, pos, subℕ, sucℤ, ℤ}
 pub use lib.ListN.{List·getD-eq-default, List·getD-map, drop, drop-of-length-le, getD, getD-replicate, length, length-append, length-drop, length-map}
 pub use lib.ListN.{length-replicate, length-reverse, length-set, replicate, replicate-append-replicate, set, take, take-append-drop}
 pub use lib.Seq.{append-snoc, drop-append-le, drop-append-seam, drop-at, drop-cons, drop-drop, drop-paste, ext-getD, getD-set-other, getD-set-same, getD-take}

@@ -7,7 +7,7 @@ use Rattle.paper.specs.Cell.{Symbol, Word, mkWord, symbolOf, integer, fr
 use Rattle.paper.specs.Region.{regionOf, layout, lettersFrom, lettersOf, regionsSound, endOfRegions, letterTaken}
 use Rattle.paper.specs.Step.{choose}
 use Rattle.paper.specs.Print.{digitsBy, digits, integerText, cellText, symbolText, lineBytes}
-use Rattle.paper.proofs.SoundStore.{Frame, Sound, WordOk, in-store, its, put-sound}
+use Rattle.paper.proofs.SoundStore.{Frame, near, as-local, symbol-word, Sound, WordOk, in-store, its, put-sound}
 use Rattle.paper.proofs.SoundTest.{sound-from, sound-passes}
 use Rattle.paper.proofs.FreshLaws.{freshState, fresh-sound}
 use Rattle.paper.proofs.BookLaws.{choose-both, choose-last, reserved-open}
@@ -108,6 +108,7 @@ abbrev largest : Frame
 largest = record {
   n = largestN;
   rs = regionA;
+  tally = integer (pos 0);
   had = [];
   out = 0;
   big = omega arith;
@@ -127,27 +128,18 @@ abbrev both : State
 both = withCells symbolIn (set (symbolIn .cells) A0 (term (integer longestInteger)))
 
 begins-sound : Sound largest begins
-begins-sound = fresh-sound largest (omega arith)
+begins-sound = fresh-sound largest refl (omega arith)
 
 symbolIn-sound : Sound largest symbolIn
 symbolIn-sound =
-    let w = its largest (W 0) begins-sound (omega arith) in
-    put-sound largest begins (W 0) (word longestSymbol) begins-sound (record { nonzero = omega arith; kept = ap isFree (w .is) }) (omega arith)
-    (record {
-      p≤7 = omega arith;
-      q≤4 = omega arith;
-      q≢3 = omega arith;
-      q≢1 = λ _. omega arith;
-      symb< = omega arith;
-      link< = omega arith;
-      noJ = λ b. absurd (omega arith);
-    })
-    refl
+    let w = its largest (W 0) begins-sound (omega arith) (omega arith) in
+    put-sound largest begins (W 0) (word longestSymbol) begins-sound (record { nonzero = omega arith; kept = ap isFree (w .is) }) (omega arith) (omega arith)
+    (symbol-word (as-local 10000 (omega arith)) (omega arith) (near (omega arith) (omega arith))) refl
 
 both-sound : Sound largest both
 both-sound =
     put-sound largest symbolIn A0 (term (integer longestInteger)) symbolIn-sound (reserved-open A0 symbolIn-sound (omega arith) (omega (arith, A-ends)) .used)
-    (omega arith) (record { place = omega arith; range = omega arith }) refl
+    (omega arith) (omega arith) (record { place = λ _. omega arith; range = omega arith }) refl
 
 pub record Longest : Type 0 where
   pub store : State

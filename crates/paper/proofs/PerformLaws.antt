@@ -5,10 +5,10 @@ use Rattle.paper.specs.Cell.{State, J}
 use Rattle.paper.specs.Act.{Act, done, refused, refuse, ifThen, own, pop, NotListed}
 use Rattle.paper.specs.Process.{Next, then, executing, J1, Entry, thenOn, one, ten, control, listed, covers, isListedIn, isListed, performIn, perform}
 use Rattle.paper.proofs.Safe.{Safe, Any, bind, seq, start, safe-ret, safe-ret-at, safe-refuse, safe-ifThen}
-use Rattle.paper.proofs.SoundStore.{Frame, SymbolOk, never, or-false, and-true}
-use Rattle.paper.proofs.ActLaws.{Ok, forget, as-internal, s-pop, s-top}
+use Rattle.paper.proofs.SoundStore.{Frame, SymbolOk, as-local, as-internal, never, or-false, and-true}
+use Rattle.paper.proofs.ActLaws.{Ok, forget, s-pop, s-top}
 use Rattle.paper.proofs.Goes.{From, asks-known, ended}
-use Rattle.paper.proofs.ProcessLaws.{Kept, s-setH5, as-local, s-J2, s-J5, s-J6, s-J9, s-J2n, s-J3n, s-J4n, s-J5n, s-J60, s-J63, s-J64, s-J68, s-J71}
+use Rattle.paper.proofs.ProcessLaws.{Kept, s-setH5, s-J2, s-J5, s-J6, s-J9, s-J2n, s-J3n, s-J4n, s-J5n, s-J60, s-J63, s-J64, s-J68, s-J71}
 use Rattle.paper.proofs.ProcessLaws.{s-J72, s-J74, s-J90, s-combines, s-compares, s-compares0, s-changes, s-J120, s-J124, s-testsTag, s-J131, s-retags}
 use Rattle.paper.proofs.ProcessLaws.{s-J152, s-J153}
 

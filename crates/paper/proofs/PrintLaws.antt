@@ -101,7 +101,7 @@ J152-full s h = rw (print-full (symbolText (s .regions) (symbolOf (wordIn (at s 
 
 pub symbol-bound : (F : Frame) (s : State) → Sound F s → symbolLine s ≤ longestSymbolLine
 symbol-bound F s i =
-    let w = its F (H 0) i (omega arith) in
+    let w = its F (H 0) i (omega arith) (omega arith) in
     let below : wordIn (at s (H 0)) .symb < F .n = rw (w .is) (w .good .symb<) in
     symbol-line (s .regions) (symbolOf (wordIn (at s (H 0)))) (omega (arith, F .small))
 

@@ -85,7 +85,7 @@ unfolding sized
 q-sized f h = record { at = λ s. h (length (s .cells)) .at s }
 
 -- the small actions
-q-peek : (c : ℕ) → Quiet (peek c)
+pub q-peek : (c : ℕ) → Quiet (peek c)
 unfolding peek
 q-peek c = record { at = λ s. as-it-was s }
 
@@ -111,7 +111,7 @@ q-touch c = q-seq (q-check _ _ tt) (q-bind (q-peek c) λ x. q-seq (q-check _ _ t
 
 pub q-target : (c : ℕ) → Quiet (target c)
 unfolding target
-q-target c = q-touch c
+q-target c = q-bind (q-touch c) λ x. q-seq (q-check _ _ tt) (q-ret x)
 
 q-asWord : (c : ℕ) (x : Cell) → Quiet (asWord c x)
 unfolding asWord

@@ -1,7 +1,7 @@
 -- The lines of a run have at most `longestLine` bytes for each of its cycles; and a run that has this much room for each cycle of its budget is not
 -- refused by 30. What it prints is whole lines. All this holds of any state: one that is not run does no cycle.
 use Rattle.paper.proofs.Kit.{clash, List, [], _∷_, _++_, append-assoc, append-nil, _≡_, refl, ap, subst, _∙_, Bool, true, false, cond, _&&_, ℕ, zero}
-use Rattle.paper.proofs.Kit.{suc, _+_, _*_, _≤_, leb, arith, length}
+use Rattle.paper.proofs.Kit.{suc, _+_, _*_, _≤_, leb, leb-true, arith, length}
 use Rattle.paper.specs.Limits.{largestBudget, longestLine}
 use Rattle.paper.specs.Step.{Res, done, refused}
 use Rattle.paper.specs.Cell.{sizeFits, State}
@@ -18,7 +18,7 @@ use Rattle.paper.proofs.PrintLaws.{Ended, nothing, fed}
 use Rattle.paper.proofs.CycleLines.{Few, cycle-line}
 
 -- the answers of a run that did nothing
-abbrev Unrun : RunAnswer → Type 0
+abbrev pub Unrun : RunAnswer → Type 0
 Unrun BadSize = Unit {0}
 Unrun NotSound = Unit {0}
 Unrun Finished = ⊥
@@ -101,31 +101,31 @@ room-used : (budget : ℕ) (s : State) → Runnable s → let o = runFrom budget
 room-used budget s r = along (λ n u. s .room ≤ u .room + n * longestLine) (λ n u t k h. omega (arith, k .room)) budget 0 s r (omega arith)
 
 -- what is so of the cycles of a run, and of one that does none, is so of the public run
-by-cycles : (P : Outcome → Type 0) (budget : ℕ) (s : State) → (Runnable s → P (runFrom budget 0 s)) → ((a : RunAnswer) → Unrun a → P (outcome a 0 s))
-    → P (run budget s)
+pub by-cycles : (P : Outcome → Type 0) (budget : ℕ) (s : State) → (Runnable s → budget ≤ largestBudget → P (runFrom budget 0 s))
+    → ((a : RunAnswer) → Unrun a → P (outcome a 0 s)) → P (run budget s)
 unfolding run
-by-cycles P budget s h k = go (sizeFits (length (s .cells))) refl (sound s) refl (leb budget largestBudget)
+by-cycles P budget s h k = go (sizeFits (length (s .cells))) refl (sound s) refl (leb budget largestBudget) refl
   where
-    go : (a : Bool) → sizeFits (length (s .cells)) ≡ a → (b : Bool) → sound s ≡ b → (c : Bool) → P (elim a as (λ _. Outcome) [
+    go : (a : Bool) → sizeFits (length (s .cells)) ≡ a → (b : Bool) → sound s ≡ b → (c : Bool) → leb budget largestBudget ≡ c → P (elim a as (λ _. Outcome) [
       | false ↦ outcome BadSize 0 s
       | true ↦ elim (b && c) as (λ _. Outcome) [ false ↦ outcome NotSound 0 s | true ↦ runFrom budget 0 s ]
     ])
-    go true f true t true = h (record { size = f; test = t })
-    go true f true t false = k NotSound tt
-    go true f false t true = k NotSound tt
-    go true f false t false = k NotSound tt
-    go false f b t c = k BadSize tt
+    go true f true t true l = h (record { size = f; test = t }) (leb-true budget largestBudget l)
+    go true f true t false l = k NotSound tt
+    go true f false t true l = k NotSound tt
+    go true f false t false l = k NotSound tt
+    go false f b t c l = k BadSize tt
 
 pub enough-room : (budget : ℕ) (s : State) → budget * longestLine ≤ s .room → run budget s .answer ≡ Refused NoRoom → ⊥
 enough-room budget s h =
-    by-cycles (λ o. o .answer ≡ Refused NoRoom → ⊥) budget s (λ r. room-for-all budget 0 s r h) λ a u e. subst Unrun e u
+    by-cycles (λ o. o .answer ≡ Refused NoRoom → ⊥) budget s (λ r _. room-for-all budget 0 s r h) λ a u e. subst Unrun e u
 
 pub lines-short : (budget : ℕ) (s : State) → let o = run budget s in length (o .state .lines) ≤ length (s .lines) + o .cycles * longestLine
 lines-short budget s =
     by-cycles (λ o. length (o .state .lines) ≤ length (s .lines) + o .cycles * longestLine) budget s
-    (λ r. omega (arith, room-used budget s r, every-run budget 0 s r .within .room)) λ a u. omega arith
+    (λ r _. omega (arith, room-used budget s r, every-run budget 0 s r .within .room)) λ a u. omega arith
 
 -- whole lines: where those before end with a line feed, or there are none, so do all
 pub lines-whole : (budget : ℕ) (s : State) → Ended (s .lines) → Ended (run budget s .state .lines)
 lines-whole budget s h =
-    by-cycles (λ o. Ended (o .state .lines)) budget s (λ r. along (λ n u. Ended (u .lines)) (λ n u t k. k .ends) budget 0 s r h) λ a u. h
+    by-cycles (λ o. Ended (o .state .lines)) budget s (λ r _. along (λ n u. Ended (u .lines)) (λ n u t k. k .ends) budget 0 s r h) λ a u. h
