@@ -1,12 +1,14 @@
 -- A cell that is touched, by what the code has found out of it, in the form in which `search touching` finds the proof of a way out.
-use Rattle.paper.proofs.Kit.{ℕ, _≡_, refl, _∙_, sym, _≢_, Bool, true, false, List, Option, some}
+use Rattle.paper.proofs.Kit.{clash, ℕ, _≡_, refl, _∙_, sym, _≢_, Bool, true, false, List, Option, none, some, ne-eqb}
 use Rattle.paper.specs.declared.Refusal.{Refusal}
-use Rattle.paper.specs.declared.Refusal.the-variants.{CellZero, FreeCell}
-use Rattle.paper.specs.Cell.{Cell, free, word, term, process, isFree, isWord, isTerm}
-use Rattle.paper.specs.Act.{Act, _>>=_, touch}
+use Rattle.paper.specs.declared.Refusal.the-variants.{CellZero, FreeCell, OwnCell}
+use Rattle.paper.specs.Cell.{Cell, free, word, term, process, isFree, isWord, isTerm, State}
+use Rattle.paper.specs.Act.{Act, Res, done, refused, _>>=_, _>>_, ret, refuse, refuseIf, touch, target}
 use Rattle.paper.proofs.SoundStore.{never}
 use Rattle.cells.specs.Bridge.{Rest, cellIn}
-use Rattle.steps.specs.Follows.{Follows}
+use Rattle.steps.specs.Follows.{left, Follows}
+use Rattle.steps.proofs.Steps.{bind-same}
+use Rattle.steps.proofs.Join.{to-alike}
 use Rattle.steps.proofs.Sequence.{bind, undone, give}
 use Rattle.undo.specs.Verdict.{told}
 use Rattle.undo.specs.Did.{reading}
@@ -52,5 +54,36 @@ module _ {B : Type 0} {K : Rest → Type 0} {s : List ℕ} {a r : Option Refusal
 
   pub r-term : cellIn s c ≡ x → c ≢ 0 → p ≡ isTerm x → p ≡ true → Follows reading K 0 (g x) s a s r u → Follows reading K 0 (touch c >>= g) s a s r u
   r-term e z q f d = used e z (term-used x (sym q ∙ f)) d
+
+-- a cell to be written: H3 is refused whatever it holds, any other is one that is touched
+never-done : {A : Type 0} (q : Res State Refusal A) (z : Refusal) (v : A) (t : State) → _≡_ {A = Res State Refusal A}
+    (elim q as (λ _. Res State Refusal A) [ done x u ↦ refused z | refused e ↦ refused e ]) (done v t) → ⊥
+never-done (done x u) z v t p = clash cc
+never-done (refused e) z v t p = clash cc
+
+H3-refused : (a : Option Refusal) (t t′ : State) (v : Cell) → (left a >> target 4) t ≡ (left none >> ret v) t′ → ⊥
+unfolding left _>>_ _>>=_ ret refuse refuseIf target
+H3-refused none t t′ v p = never-done (touch 4 t) (OwnCell 4) v t′ p
+H3-refused (some z) t t′ v p = clash cc
+
+as-touched : (c : ℕ) → c ≢ 4 → (t : State) → target c t ≡ touch c t
+unfolding target _>>_ _>>=_ ret refuseIf
+as-touched c n t = rw (ne-eqb c 4 n) (same (touch c t))
+  where
+    same : (q : Res State Refusal Cell) → _≡_ {A = Res State Refusal Cell}
+        (elim q as (λ _. Res State Refusal Cell) [ done x u ↦ done x u | refused e ↦ refused e ]) q
+    same (done x u) = refl
+    same (refused e) = refl
+
+module _ {B : Type 0} {K : Rest → Type 0} {s : List ℕ} {a : Option Refusal} {u : B} (c : ℕ) (g : Cell → Act B) where
+  pub r-tally : {r : Option Refusal} {v : Cell} → c ≡ 4 → Follows reading K 0 (target c) s a s r v → Follows reading K 0 (target c >>= g) s a s r u
+  r-tally {r} {v} e d = go r d
+    where
+      go : (r : Option Refusal) → Follows reading K 0 (target c) s a s r v → Follows reading K 0 (target c >>= g) s a s r u
+      go (some z) d = bind g {j = 0} d (undone z refl)
+      go none d = record { is = λ w k. absurd (H3-refused a _ _ v (rw e at (d .is w k .is))); kept = tt }
+
+  pub r-other : {r : Option Refusal} → c ≢ 4 → Follows reading K 0 (touch c >>= g) s a s r u → Follows reading K 0 (target c >>= g) s a s r u
+  r-other n d = record { is = λ w k. to-alike (bind-same (target c) (touch c) g _ _ (as-touched c n _)) (d .is w k); kept = tt }
 
 pub ruleset touching = (early, r-zero, r-free, r-used, r-word, r-term)

@@ -69,11 +69,21 @@ pub fn touch(cells: &[u64], go: u32, c: u16) -> Got
     Got { go: go, x: x }
 }
 
-// A cell that an action writes.
+// A cell that an action writes: not H3, whatever it holds.
 pub fn target(cells: &[u64], go: u32, c: u16) -> Got
     ensures { λ r. ⌜ Reads Always (target c) cells go (r .go) (unpackOf (r .x)) ⌝ }
 {
-    touch(cells, go, c)
+    let t = touch(cells, go, c);
+    if t.go != 0 {
+        return t;
+    }
+    if c == limits::H3 {
+        return Got {
+            go: undo::refused(27, c),
+            x: 0,
+        };
+    }
+    t
 }
 
 // The kind that is asked for is tested first: only where it is not found is it asked which refusal that is.
@@ -108,10 +118,13 @@ pub fn word_at(cells: &[u64], go: u32, c: u16) -> Got
     }
 }
 
-// A word or a term that an action writes is met as one that it reads.
+// A word that an action writes is met as one that it reads, unless it is H3.
 pub fn word_to(cells: &[u64], go: u32, c: u16) -> Got
     ensures { λ r. ⌜ Reads Always (wordTo c) cells go (r .go) (wordOf (r .x)) ⌝ }
 {
+    if c == limits::H3 {
+        return target(cells, go, c);
+    }
     word_at(cells, go, c)
 }
 
@@ -149,6 +162,10 @@ pub fn term_at(cells: &[u64], go: u32, c: u16) -> GotTerm
 pub fn term_to(cells: &[u64], go: u32, c: u16) -> GotTerm
     ensures { λ r. ⌜ Reads Always (termTo c) cells go (r .go) (termOf (r .v)) ⌝ }
 {
+    if c == limits::H3 {
+        let t = target(cells, go, c);
+        return GotTerm { go: t.go, v: 0 };
+    }
     term_at(cells, go, c)
 }
 
@@ -338,6 +355,9 @@ pub fn restore(cells: &mut [u64], log: &mut [u64], go: u32, top: u16, c: u16) ->
     let w = g.x;
     let go = has_below(g.go, c, w);
     let go = not_own(go, c);
+    if go != 0 {
+        return go;
+    }
     pull_up(cells, log, go, top, c, (w % 65536) as u16)
 }
 

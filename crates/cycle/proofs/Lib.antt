@@ -6,5 +6,6 @@ pub mod ExecuteLaws
 pub mod FetchLaws
 pub mod OrderLaws
 pub mod InterpretLaws
+pub mod CountLaws
 pub mod TurnLaws
 pub mod CycleLaws

@@ -5,10 +5,11 @@ use mathlib.Core.Option.{some}
 use mathlib.Core.List.{List}
 use lib.ListN.{length, take, drop}
 use Rattle.paper.specs.Cell.{Region, State}
-use Rattle.paper.specs.Cycle.{cycle}
+use Rattle.paper.specs.Act.{done}
+use Rattle.paper.specs.Cycle.{count, cycle}
 use Rattle.paper.specs.Run.{Turn, stops, continues, alone, afterCycle}
 use Rattle.cells.specs.Pack.{AllFormed}
-use Rattle.cells.specs.Bridge.{stateOf}
+use Rattle.cells.specs.Bridge.{Rest, stateOf}
 use Rattle.undo.specs.Log.{rewindOf}
 use Rattle.undo.specs.Verdict.{told}
 use Rattle.structures.specs.Walks.{Clean}
@@ -39,7 +40,12 @@ pub record Turns (rs : List Region) (s out : List ℕ) (at : ℕ) (s′ out′ l
   pub ready : Ready s′ log order marks
   pub formed : AllFormed s → AllFormed s′
 
--- the end of a cycle: all stays, or the log is undone
+-- the cells as `count` leaves them
+pub record Counted (s s′ : List ℕ) : Type 0 where
+  pub is : (e : Rest) → count (stateOf e s) ≡ done tt (stateOf e s′)
+  pub formed : AllFormed s → AllFormed s′
+
+-- the end of a cycle: all stays and H3 counts one more, or the log is undone
 unfoldable pub Settles : ℕ → ℕ → List ℕ → List ℕ → List ℕ → Cycled → Type 0
-Settles go end l s s′ (Progress n) = (go ≡ 0) × (n ≡ end) × (s′ ≡ s)
+Settles go end l s s′ (Progress n) = (go ≡ 0) × (n ≡ end) × Counted s s′
 Settles go end l s s′ (Refused e) = (told go ≡ some e) × (0 < go) × (s′ ≡ rewindOf l s)

@@ -28,6 +28,7 @@ use structures::Order;
 mod control;
 mod fetched;
 mod past;
+mod tally;
 
 // What a cycle came to: where the lines end now, or why it was refused.
 pub enum Cycled {
@@ -219,12 +220,13 @@ fn interpret(
     }
 }
 
-// The end of a cycle: its line stands, or all its writes are undone.
+// The end of a cycle: its line stands and H3 counts it, or all its writes are undone.
 fn settle(cells: &mut [u64], log: &[u64], go: u32, end: usize) -> Cycled
-    requires { ⌜ Room (now log) 0 ⌝ }
+    requires { ⌜ Room (now log) 0 × (4 < length (now cells)) ⌝ }
     ensures { λ r. ⌜ Settles go end (now (log .entry)) (now (cells .entry)) (now (cells .exit)) r ⌝ }
 {
     if go == 0 {
+        tally::count(cells);
         return Cycled::Progress(end);
     }
     undo::rewind(cells, log);

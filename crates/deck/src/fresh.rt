@@ -18,6 +18,8 @@ use regions::Regions;
 // Cells in the width of an index.
 const H2: usize = limits::H2 as usize;
 
+const H3: usize = limits::H3 as usize;
+
 const J0: usize = limits::J0 as usize;
 
 const FIRST_DECK: usize = limits::FIRST_DECK as usize;
@@ -44,6 +46,9 @@ fn fresh_cell(size: usize, end: usize, c: usize) -> u64
         let x = Symbol::empty();
         return cells::of_fields(0, x.tag, x.num, next_free(size, end));
     }
+    if c == H3 {
+        return cells::of_term(cells::ZERO);
+    }
     if c < J0 {
         return cells::EMPTY;
     }
@@ -56,7 +61,7 @@ fn fresh_cell(size: usize, end: usize, c: usize) -> u64
     cells::of_free(next_free(size, c + 1))
 }
 
-// "The free list starts ascending", "Undefined regional cells are empty words", "H0, W and the rest of H are empty".
+// "The free list starts ascending", "Undefined regional cells are empty words", "H0, W and the rest of H are empty"; H3 counts from 0.
 fn lay(cells: &mut [u64], end: usize)
     requires { ⌜ length (now cells) ≤ largestN ⌝ }
     ensures { λ _. ⌜ (unpacked (now (cells .exit)) ≡ cellsFrom (freshCell (length (now (cells .entry))) end) (length (now (cells .entry))) 0)

@@ -126,7 +126,7 @@ module _ (deck s : List ℕ) {s′ : List ℕ} {r : Loaded} (allowed : Loads dec
       byEnd e (complete b) p =
           loaded (answer-is p)
           (fits (ending (length (unpacked s)) (complete b)) p (numbers-are e p)
-          (subst (λ (l : LoadOutcome). Leaves (unpacked s) l (l .answer)) p (load-leaves deck (unpacked s))))
+          (subst (λ (l : LoadOutcome). Leaves (unpacked s) l (l .answer)) p (load-leaves deck (unpacked s)) .0))
       byEnd e (broken f o) p =
           refused f o (answer-is p)
           (numbers-are e p ∙ packed-zeros (length (unpacked s)) ∙ ap (λ n. replicate n 0) (unpacked-length s))

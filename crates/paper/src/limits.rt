@@ -53,6 +53,8 @@ pub const H1: u16 = 2;
 
 pub const H2: u16 = 3;
 
+pub const H3: u16 = 4;
+
 pub const H5: u16 = 6;
 
 pub const W0: u16 = 11;

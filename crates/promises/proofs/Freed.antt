@@ -71,9 +71,9 @@ module _ (r : Regions) (s : List ℕ) (size : sizeFits (length s) ≡ true) (pas
     all-used = all-map _ _ gone used (e .before)
 
     -- a cell of H is no free one, before and after
-    owned : (c : ℕ) → c < 21 → isFree (cellIn s c) ≡ false
+    owned : (c : ℕ) → c < 21 → c ≢ 4 → isFree (cellIn s c) ≡ false
     unfolding cellIn
-    owned c h = let t = runnable r s size passes in ap isFree (own-word (sound-from (stateWith r s [] 0) (t .size) (t .test) .isSound) c h)
+    owned c h n = let t = runnable r s size passes in ap isFree (own-word (sound-from (stateWith r s [] 0) (t .size) (t .test) .isSound) c h n)
 
     same-number : (c d : ℕ) → c < length s → d < length s → cellIn s₁ c ≡ cellIn s d → getD s₁ c 0 ≡ getD s d 0
     same-number c d h k p =
@@ -85,8 +85,8 @@ module _ (r : Regions) (s : List ℕ) (size : sizeFits (length s) ≡ true) (pas
     stays c m = go (ℕ-discrete c 1) (ℕ-discrete c 3)
       where
         go : Dec (c ≡ 1) → Dec (c ≡ 3) → isFree (cellIn s₁ c) ≡ isFree (cellIn s c)
-        go (yes p) q = ap (λ k. isFree (cellIn s₁ k)) p ∙ ap isFree (e .popped) ∙ e .before .0 ∙ sym (ap (λ k. isFree (cellIn s k)) p ∙ owned 1 (omega arith))
-        go (no p) (yes q) = ap (λ k. isFree (cellIn s₁ k)) q ∙ ap isFree (e .inH2) ∙ sym (ap (λ k. isFree (cellIn s k)) q ∙ owned 3 (omega arith))
+        go (yes p) q = ap (λ k. isFree (cellIn s₁ k)) p ∙ ap isFree (e .popped) ∙ e .before .0 ∙ sym (ap (λ k. isFree (cellIn s k)) p ∙ owned 1 (omega arith) (omega arith))
+        go (no p) (yes q) = ap (λ k. isFree (cellIn s₁ k)) q ∙ ap isFree (e .inH2) ∙ sym (ap (λ k. isFree (cellIn s k)) q ∙ owned 3 (omega arith) (omega arith))
         go (no p) (no q) = ap isFree (e .others c p q m)
 
     free-after : (c : ℕ) → freeAt s₁ c ≡ (freeAt s c || member c gone)

@@ -1,15 +1,15 @@
 -- Demand 3 inside a cycle: whenever a cycle is accepted whose order executes J72, J71 or J74, it has done to the store what that process
--- does, and besides that H1 has got the LINK. Each statement can be read without its proof.
+-- does, and besides that H1 has got the LINK and H3 counts one more. Each statement can be read without its proof.
 use Rattle.paper.proofs.Kit.{clash, ℕ, suc, _-_, _<_, _≤_, _≡_, refl, sym, ap, subst, _∙_, Bool, true, false, List, [], _∷_, reverse, _≢_, arith, ne-eqb}
 use Rattle.paper.proofs.Kit.{length, set}
 use Rattle.paper.specs.declared.Refusal.{Refusal}
 use Rattle.paper.specs.declared.Symbol.{Symbol}
 use Rattle.paper.specs.Limits.{firstDeck}
-use Rattle.paper.specs.Cell.{sizeFits, Cell, free, word, term, process, Word, wordIn, withSymbol, cellAt, State, withCells, H, J, nameIn}
+use Rattle.paper.specs.Cell.{sizeFits, Cell, free, word, term, process, Word, wordIn, termIn, withSymbol, cellAt, State, withCells, H, J, nameIn}
 use Rattle.paper.specs.Act.{Act, Res, done, refused, _>>=_, _>>_, ret, refuseIf, ifThen, choose, peek, put, own, nameOf, sized, touch, notOwn, ownStore}
 use Rattle.paper.specs.Walk.{walkBack, chainBack}
 use Rattle.paper.specs.Process.{J71, J72, J74, Next, perform, thenOn, listed, performIn}
-use Rattle.paper.specs.Cycle.{Control, goesOn, finish, performs, execute, executes, operate, toLink, advance, cycle}
+use Rattle.paper.specs.Cycle.{Control, goesOn, finish, performs, execute, executes, operate, toLink, advance, work, oneMore, count, cycle}
 use Rattle.paper.specs.Run.{Turn, finishes, continues, isFinished, alone, joined, afterCycle, turn}
 use Rattle.paper.proofs.SoundStore.{Frame, at, CellOk}
 use Rattle.paper.proofs.SoundTest.{sound-from}
@@ -21,6 +21,7 @@ use Rattle.sound.specs.Store.{stateWith}
 use Rattle.cycle.specs.Order.{fetch}
 use Rattle.cycle.specs.Turns.{stateAt}
 use Rattle.cycle.proofs.OrderLaws.{doing, interprets}
+use Rattle.cycle.proofs.TurnLaws.{after-work, no-work}
 use Rattle.machine.specs.declared.Ran.{Ran}
 use Rattle.machine.specs.Numbers.{numbers, runOn}
 use Rattle.machine.proofs.Carried.{Before, runnable}
@@ -33,6 +34,10 @@ inH1 s = wordIn (cellAt (s .cells) (H 1))
 abbrev pub goingTo : Symbol → State → State
 goingTo x s = withCells s (set (s .cells) (H 1) (word (withSymbol (inH1 s) x)))
 
+-- and with one more in H3
+abbrev pub counting : State → State
+counting s = withCells s (set (s .cells) (H 3) (term (oneMore (termIn (cellAt (s .cells) (H 3))))))
+
 -- the order of the cycle from s executes the process n, and then H1 is to get the LINK l
 pub record Executes (n l : ℕ) (s : State) : Type 0 where
   pub going : inH1 s .symb ≢ 0
@@ -43,8 +48,8 @@ pub record Executes (n l : ℕ) (s : State) : Type 0 where
 -- "J cells are the only process cells"
 J-cell : (F : Frame) (c : ℕ) (x : Cell) → J 0 ≤ c → c < firstDeck → CellOk F c x → x ≡ process
 J-cell F c (free l) a b k = absurd (omega (arith, k .notReserved, F .end≥))
-J-cell F c (word w) a b k = absurd (omega (arith, k .noJ a))
-J-cell F c (term t) a b k = absurd (omega (arith, k .place))
+J-cell F c (word w) a b k = absurd (omega (arith, k .place .noJ a))
+J-cell F c (term t) a b k = absurd (omega (arith, k .place (omega arith)))
 J-cell F c process a b k = refl
 
 -- a line of a block that was accepted
@@ -95,9 +100,9 @@ module _ (s : State) (r : Runnable s) (n : ℕ) (few : J n < firstDeck) (m : Act
   done-too again u h = after-bind (thenOn m) s (after-then m s h _) _
 
   module _ (l : ℕ) (o : Executes n l s) where
-    cycle-is : cycle s ≡ (operate 0 (o .x) >>= advance l) s
-    unfolding cycle own ifThen
-    cycle-is =
+    work-is : work s ≡ (operate 0 (o .x) >>= advance l) s
+    unfolding work own ifThen
+    work-is =
         after-bind (own (H 1)) s refl _
         ∙ rw (ne-eqb (inH1 s .symb) 0 (o .going), ifThen)
         (ap (λ (f : Act (Unit {0})). f s) (sym (interprets (inH1 s .symb))) ∙ after-bind (fetch (inH1 s .symb)) s (o .fetched) doing)
@@ -108,32 +113,37 @@ module _ (s : State) (r : Runnable s) (n : ℕ) (few : J n < firstDeck) (m : Act
 
     stopped : (e : Refusal) → operate 0 (o .x) s ≡ refused e → cycle s ≡ refused e
     unfolding _>>=_
-    stopped e h = cycle-is ∙ rw (h, _>>=_)
+    stopped e h = no-work s e (work-is ∙ rw (h, _>>=_))
 
     advanced : (u : State) → advance l goesOn u ≡ done tt (goingTo (nameIn (u .regions) l) u)
     unfolding advance toLink nameOf ownStore own put _>>=_
     advanced u = refl
 
-    -- an accepted cycle: the process was accepted, and H1 has got the LINK
-    accepted : (t : State) → cycle s ≡ done tt t → (u : State) × (m s ≡ done tt u) × (t ≡ goingTo (nameIn (u .regions) l) u)
+    counts : (u : State) → work s ≡ done tt u → cycle s ≡ done tt (counting u)
+    unfolding count peek put _>>=_
+    counts u h = after-work s u h
+
+    -- an accepted cycle: the process was accepted, H1 has got the LINK, and H3 counts it
+    accepted : (t : State) → cycle s ≡ done tt t → (u : State) × (m s ≡ done tt u) × (t ≡ counting (goingTo (nameIn (u .regions) l) u))
     accepted t e = go (m s) refl
       where
-        go : (y : Res State Refusal (Unit {0})) → m s ≡ y → (u : State) × (m s ≡ done tt u) × (t ≡ goingTo (nameIn (u .regions) l) u)
+        go : (y : Res State Refusal (Unit {0})) → m s ≡ y → (u : State) × (m s ≡ done tt u) × (t ≡ counting (goingTo (nameIn (u .regions) l) u))
         go (refused q) h =
             let f = stopped q (operates ∙ refused-too (λ z. execute (length (s .cells)) z) q h) in
             clash cc
         go (done v u) h =
-            let f = cycle-is ∙ after-bind (operate 0 (o .x)) s (operates ∙ done-too (λ z. execute (length (s .cells)) z) u h) (advance l) ∙ advanced u in
+            let f = work-is ∙ after-bind (operate 0 (o .x)) s (operates ∙ done-too (λ z. execute (length (s .cells)) z) u h) (advance l) ∙ advanced u in
+            let g = counts _ f in
             (u, h, cc)
 
 -- From s to t a cycle has freed the cell below H0 and the cells that m met, and changed nothing else (`Erased` of paper/proofs/Demand3); then
--- H1 got the LINK l.
+-- H1 got the LINK l, and H3 one more.
 pub record ErasesIn (l : ℕ) (m : Act (List ℕ)) (s t : State) : Type 0 where
   pub back : List ℕ
   pub met : m s ≡ done back s
   pub between : State
   pub erased : Erased s between (inH0 s .link ∷ reverse back)
-  pub link : t ≡ goingTo (nameIn (between .regions) l) between
+  pub link : t ≡ counting (goingTo (nameIn (between .regions) l) between)
 
 module _ (s t : State) (r : Runnable s) (l : ℕ) where
   erases-in : (n : ℕ) → J n < firstDeck → (p : Act (Unit {0})) → perform n ≡ thenOn p → (m : Act (List ℕ))
@@ -154,10 +164,10 @@ module _ (s t : State) (r : Runnable s) (l : ℕ) where
   unfolding perform performIn listed ifThen
   J71-in-cycle = erases-in 71 (omega arith) J71 refl (chainBack (inH0 s .symb)) (λ u d. J71-frees s u r d)
 
-  -- and J74: the structure that H0 names is copied (`Copied`); then H1 got the LINK
+  -- and J74: the structure that H0 names is copied (`Copied`); then H1 got the LINK, and H3 one more
   pub J74-in-cycle : Executes 74 l s → cycle s ≡ done tt t
       → (u : State) × (back : List ℕ) × (news : List ℕ) × (walkBack (inH0 s .symb) s ≡ done back s) × Copied s u (reverse back) news
-      × (t ≡ goingTo (nameIn (u .regions) l) u)
+      × (t ≡ counting (goingTo (nameIn (u .regions) l) u))
   unfolding perform performIn listed ifThen
   J74-in-cycle o e =
       let (u, d, h) = accepted s r 74 (omega arith) J74 refl l o t e in

@@ -2,7 +2,7 @@
 use Rattle.paper.proofs.Kit.{_||_, ℕ, _+_, _*_, _%_, _^_, _<_, _≤_, Bool, true, false, cond, _&&_, and-assoc, and-true, true≢false, _≡_, refl, ap, sym, _∙_}
 use Rattle.paper.proofs.Kit.{arith, lt-ltb, eq-eqb, ne-eqb, ltb-true, ltb-false, eqb-true, eqb-false, ltb, leb, eqb, ℤ, pos, negsuc}
 use Rattle.paper.specs.Cell.{word, integer, termFits}
-use Rattle.paper.specs.Sound.{wordSound, cellSound, isZeros}
+use Rattle.paper.specs.Sound.{wordSound, takesWord, takesTerm, cellSound, isZeros}
 use Rattle.paper.proofs.SoundStore.{and-true as both}
 use Rattle.cells.specs.Layout.{unpackOf, wordOf, pOf, qOf, symbOf, linkOf, valueOf}
 use Rattle.cells.specs.Pack.{packOf, IntegerFits, a-word, a-free, a-term, a-process}
@@ -45,7 +45,7 @@ in-32 (negsuc n) h = lt-ltb n (2 ^ 31) h
 
 -- what is asked of the number of cell c
 module _ (n end c x : ℕ) where
-  pub number-word : x < 2 ^ 48 → (wordSound n c (wordOf x) && (ltb c 21 || leb 221 c)) ≡ numberSound n end c x
+  pub number-word : x < 2 ^ 48 → (wordSound n c (wordOf x) && takesWord c) ≡ numberSound n end c x
   unfolding numberSound cellSound
   number-word h = rw (formed-word x h, unpack-word x h)
 
@@ -53,11 +53,11 @@ module _ (n end c x : ℕ) where
   unfolding numberSound cellSound
   number-free g h = rw (formed-free x g h, unpack-free x g h) (and-assoc (ltb x (2 ^ 48 + 2 ^ 16)) (leb end c) (ltb (linkOf x) n))
 
-  pub number-term : 2 * 2 ^ 48 ≤ x → x < 3 * 2 ^ 48 → (ltb x (2 * 2 ^ 48 + 2 ^ 32) && leb 221 c) ≡ numberSound n end c x
+  pub number-term : 2 * 2 ^ 48 ≤ x → x < 3 * 2 ^ 48 → (ltb x (2 * 2 ^ 48 + 2 ^ 32) && takesTerm c) ≡ numberSound n end c x
   unfolding numberSound cellSound
   number-term g h =
       let f = in-32 (valueOf (x % 2 ^ 32)) (value-fits (x % 2 ^ 32) (omega arith)) in
-      rw (formed-term x g h, unpack-term x g h, f, and-true (leb 221 c))
+      rw (formed-term x g h, unpack-term x g h, f, and-true (takesTerm c))
 
   pub number-process : 3 * 2 ^ 48 ≤ x → (eqb x (3 * 2 ^ 48) && leb 21 c && ltb c 221) ≡ numberSound n end c x
   unfolding numberSound cellSound

@@ -12,10 +12,10 @@ use Rattle.cells.specs.Bridge.{unpacked, cellIn}
 use Rattle.cells.specs.Pack.{packOf, AllFormed}
 use Rattle.cells.proofs.Store.{unpacked-length}
 use Rattle.regions.specs.declared.Regions.{Regions}
-use Rattle.sound.specs.declared.Tally.{Tally}
-use Rattle.sound.specs.declared.Tally.the-variants.{Unsound, Free}
+use Rattle.sound.specs.declared.Pass.{Pass}
+use Rattle.sound.specs.declared.Pass.the-variants.{Unsound, Free}
 use Rattle.regions.specs.Table.{regionsOf}
-use Rattle.sound.specs.Store.{formed, allFormed, tallyOf, stateWith, storeSound}
+use Rattle.sound.specs.Store.{formed, allFormed, passOf, stateWith, storeSound}
 use Rattle.sound.proofs.NumberLaws.{zero-is}
 use Rattle.sound.proofs.StoreLaws.{passes}
 
@@ -24,13 +24,13 @@ regroup true true r z c l = and-assoc (r && z) c l
 regroup true false r z c l = sym (and-false (r && z))
 regroup false f r z c l = refl
 
-tally-unsound : (b : Bool) (n : ℕ) → cond b (Free n) Unsound ≡ Unsound → b ≡ false
-tally-unsound true n e = clash cc
-tally-unsound false n e = refl
+pass-unsound : (b : Bool) (n : ℕ) → cond b (Free n) Unsound ≡ Unsound → b ≡ false
+pass-unsound true n e = clash cc
+pass-unsound false n e = refl
 
-tally-free : (b : Bool) (n k : ℕ) → cond b (Free n) Unsound ≡ Free k → (b ≡ true) × (n ≡ k)
-tally-free true n k e = (refl, cc)
-tally-free false n k e = clash cc
+pass-free : (b : Bool) (n k : ℕ) → cond b (Free n) Unsound ≡ Free k → (b ≡ true) × (n ≡ k)
+pass-free true n k e = (refl, cc)
+pass-free false n k e = clash cc
 
 module _ (r : Regions) (s : List ℕ) where
   abbrev end : ℕ
@@ -57,16 +57,16 @@ module _ (r : Regions) (s : List ℕ) where
   from-first t f x e g h = rw (← h, e, zero-is x, ← g) (sym whole)
 
   -- the pass, with the answer t, where the reserved cells end at k
-  module _ (t : Tally) (k : ℕ) (ends : k ≡ end) (pass : t ≡ tallyOf k s) where
+  module _ (t : Pass) (k : ℕ) (ends : k ≡ end) (pass : t ≡ passOf k s) where
     found : cond passed (Free (freeCount (unpacked s))) Unsound ≡ t
-    unfolding tallyOf
-    found = sym (pass ∙ ap (λ (j : ℕ). tallyOf j s) ends)
+    unfolding passOf
+    found = sym (pass ∙ ap (λ (j : ℕ). passOf j s) ends)
 
     pub at-unsound : t ≡ Unsound → false ≡ (passed && listed (freeCount (unpacked s)))
-    at-unsound e = rw (tally-unsound passed (freeCount (unpacked s)) (found ∙ e))
+    at-unsound e = rw (pass-unsound passed (freeCount (unpacked s)) (found ∙ e))
 
     pub at-free : (n : ℕ) → t ≡ Free n → listed n ≡ (passed && listed (freeCount (unpacked s)))
-    at-free n e = let d = tally-free passed (freeCount (unpacked s)) n (found ∙ e) in rw (d .0, d .1)
+    at-free n e = let d = pass-free passed (freeCount (unpacked s)) n (found ∙ e) in rw (d .0, d .1)
 
 -- what a store that passes is to its callers: its numbers are formed, and the state that it stands for is sound, whatever its lines and room
 formed-all : (s : List ℕ) → allFormed s ≡ true → AllFormed s

@@ -6,8 +6,8 @@ use Rattle.paper.specs.Cell.{Cell, free, word, term, process, zeros, isFree, fr
 use Rattle.paper.specs.Sound.{cellSound, cellsSound, freeCount, freeList}
 use Rattle.cells.specs.Layout.{unpackOf}
 use Rattle.cells.specs.Bridge.{unpacked}
-use Rattle.sound.specs.declared.Tally.the-variants.{Unsound, Free}
-use Rattle.sound.specs.Store.{formed, allFormed, numberSound, tallyOf}
+use Rattle.sound.specs.declared.Pass.the-variants.{Unsound, Free}
+use Rattle.sound.specs.Store.{formed, allFormed, numberSound, passOf}
 
 -- what one pass finds from cell c on
 abbrev pub passes : ℕ → ℕ → ℕ → List ℕ → Bool
@@ -87,10 +87,10 @@ list-end s zero c h = refl
 list-end s (suc k) c h = absurd (omega arith)
 
 -- the answer of the pass, from what it found
-pub tally-no : (s : List ℕ) (end : ℕ) → passes (length s) end 0 s ≡ false → Unsound ≡ tallyOf end s
-unfolding tallyOf
-tally-no s end e = rw e
+pub pass-no : (s : List ℕ) (end : ℕ) → passes (length s) end 0 s ≡ false → Unsound ≡ passOf end s
+unfolding passOf
+pass-no s end e = rw e
 
-pub tally-yes : (s : List ℕ) (end k : ℕ) → passes (length s) end 0 s ≡ true → k ≡ freeCount (unpacked s) → Free k ≡ tallyOf end s
-unfolding tallyOf
-tally-yes s end k e h = rw (e, h)
+pub pass-yes : (s : List ℕ) (end k : ℕ) → passes (length s) end 0 s ≡ true → k ≡ freeCount (unpacked s) → Free k ≡ passOf end s
+unfolding passOf
+pass-yes s end k e h = rw (e, h)

@@ -10,8 +10,8 @@ use Rattle.cells.specs.Layout.{unpackOf}
 use Rattle.cells.specs.Pack.{packOf}
 use Rattle.cells.specs.Bridge.{unpacked, stateOf}
 use Rattle.regions.specs.declared.Regions.{Regions}
-use Rattle.sound.specs.declared.Tally.{Tally}
-use Rattle.sound.specs.declared.Tally.the-variants.{Unsound, Free}
+use Rattle.sound.specs.declared.Pass.{Pass}
+use Rattle.sound.specs.declared.Pass.the-variants.{Unsound, Free}
 use Rattle.regions.specs.Table.{regionsOf}
 
 -- x is the number of a cell: no bit is set that its kind does not use
@@ -34,5 +34,5 @@ storeSound r s = leb (r .n) 23 && allFormed s && sound (stateWith r s [] 0)
 unfoldable pub numberSound : ℕ → ℕ → ℕ → ℕ → Bool
 numberSound n end c x = formed x && cellSound n end c (unpackOf x)
 
-unfoldable pub tallyOf : ℕ → List ℕ → Tally
-tallyOf end s = cond (allFormed s && cellsSound (length s) end 0 (unpacked s)) (Free (freeCount (unpacked s))) Unsound
+unfoldable pub passOf : ℕ → List ℕ → Pass
+passOf end s = cond (allFormed s && cellsSound (length s) end 0 (unpacked s)) (Free (freeCount (unpacked s))) Unsound

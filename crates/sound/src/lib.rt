@@ -5,13 +5,15 @@ ghost use Rattle.paper.specs.Cell.{sizeFits};
 ghost use Rattle.paper.specs.Sound.{wordSound, freeList, freeStart};
 ghost use Rattle.cells.specs.Layout.{wordOf};
 ghost use Rattle.cells.specs.Bridge.{unpacked};
-ghost use Rattle.sound.specs.Store.{numberSound, tallyOf, storeSound};
+ghost use Rattle.sound.specs.Store.{numberSound, passOf, storeSound};
 ghost use Rattle.sound.specs.Asked.{Asks};
 use paper::RunAnswer;
 use paper::limits;
 use regions::Regions;
 
 // Limits in the widths of the places they are compared at.
+const H3: usize = limits::H3 as usize;
+
 const J0: usize = limits::J0 as usize;
 
 const FIRST_DECK: usize = limits::FIRST_DECK as usize;
@@ -19,7 +21,7 @@ const FIRST_DECK: usize = limits::FIRST_DECK as usize;
 const LARGEST_P: u64 = limits::LARGEST_P as u64;
 
 // What one pass over the cells finds.
-enum Tally {
+enum Pass {
     Unsound,
     Free(usize),
 }
@@ -41,20 +43,20 @@ fn number_sound(x: u64, n: usize, end: usize, c: usize) -> bool
     ensures { λ r. ⌜ r ≡ numberSound n end c x ⌝ }
 {
     if x < cells::FREE {
-        return word_sound(x, n, c) & ((c < J0) | (FIRST_DECK <= c));
+        return word_sound(x, n, c) & (((c < J0) & (c != H3)) | (FIRST_DECK <= c));
     }
     if x < cells::TERM {
         return (x < cells::FREE + cells::SYMB) & (end <= c) & (((x % 65536) as usize) < n);
     }
     if x < cells::PROCESS {
-        return (x < cells::TERM + cells::Q) & (FIRST_DECK <= c);
+        return (x < cells::TERM + cells::Q) & ((c == H3) | (FIRST_DECK <= c));
     }
     (x == cells::PROCESS) & (J0 <= c) & (c < FIRST_DECK)
 }
 
 // One pass: whether each number is that of a sound cell, and how many cells are free.
-fn cells_sound(cells: &[u64], end: usize) -> Tally
-    ensures { λ r. ⌜ r ≡ tallyOf end (now (cells .entry)) ⌝ }
+fn cells_sound(cells: &[u64], end: usize) -> Pass
+    ensures { λ r. ⌜ r ≡ passOf end (now (cells .entry)) ⌝ }
 {
     let n = cells.len();
     let mut free = 0;
@@ -62,12 +64,12 @@ fn cells_sound(cells: &[u64], end: usize) -> Tally
     while c < n {
         let x = cells[c];
         if !number_sound(x, n, end, c) {
-            return Tally::Unsound;
+            return Pass::Unsound;
         }
         free += cells::is_free(x) as usize;
         c += 1;
     }
-    Tally::Free(free)
+    Pass::Free(free)
 }
 
 // "H2's LINK starts the free list."
@@ -113,8 +115,8 @@ pub fn sound(cells: &[u64], regions: Regions) -> bool
         return false;
     }
     match cells_sound(cells, regions.top()) {
-        Tally::Unsound => false,
-        Tally::Free(k) => free_list(cells, k, free_start(cells)),
+        Pass::Unsound => false,
+        Pass::Free(k) => free_list(cells, k, free_start(cells)),
     }
 }
 

@@ -47,18 +47,20 @@ settle-requires-2 : tie.Need-settle-requires-2
 settle-requires-2 c κs =
     let c₁ = c .before .before .before .before .before .before .before .before in
     let c₂ = c₁ .before .before .before .before .before .before .before .before .before .before .before in
-    let c₃ = c₂ .before .before .before .before .before .before in
-    record {
-      fits = omega (
-        arith,
-        (c₃ .pre .0 .room),
-        (c₂ .begin .ensures .count),
-        (c₂ .begin .kept),
-        (c₁ .interpret .kept .0),
-        (c₁ .interpret .kept .1 .0),
-        (c₁ .interpret .ensures .0 .follows) _ ((c₃ .pre .2 .tells)) .kept .count,
-      );
-    }
+    let c₃ = c₂ .before .before .before .before .before .before in (
+      record {
+        fits = omega (
+          arith,
+          (c₃ .pre .0 .room),
+          (c₂ .begin .ensures .count),
+          (c₂ .begin .kept),
+          (c₁ .interpret .kept .0),
+          (c₁ .interpret .kept .1 .0),
+          (c₁ .interpret .ensures .0 .follows) _ ((c₃ .pre .2 .tells)) .kept .count,
+        );
+      },
+      omega (arith, (c₃ .pre .0 .clean .large), (c₁ .interpret .kept .0)),
+    )
 
 returns-2 : tie.Need-returns-2
 returns-2 c =

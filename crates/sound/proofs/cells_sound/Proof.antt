@@ -2,7 +2,7 @@
 use Rattle.paper.proofs.Kit.{_≤_, _+_, _-_, true, false, _≡_, refl, sym, _∙_, arith, needs, not-true, not-false, drop}
 use Rattle.paper.specs.Sound.{freeCount}
 use Rattle.cells.specs.Bridge.{unpacked}
-use Rattle.sound.proofs.StoreLaws.{passes, pass-turn, pass-none, one-most, count-turn, count-none, tally-no, tally-yes}
+use Rattle.sound.proofs.StoreLaws.{passes, pass-turn, pass-none, one-most, count-turn, count-none, pass-no, pass-yes}
 use Rattle.sound.proofs.cells_sound.Statement.{statement}
 use Rattle.sound.proofs.cells_sound.Tie as tie
 
@@ -25,7 +25,7 @@ returns c =
     let a = c .before .before .before .before .before .before .args in
     let f = sym (not-true _ (c .if1 .taken)) ∙ c .before .number-sound .ensures in
     let p = pass-turn (a .cells .now) (l .c) (c .before .before .before .loop-test .taken) _ (a .end) false f in
-    tally-no (a .cells .now) (a .end) (sym (p ∙ l .inv .2))
+    pass-no (a .cells .now) (a .end) (sym (p ∙ l .inv .2))
 
 add-free : tie.Need-add-free Inv-loop μ-loop
 add-free c = omega (arith, one-most (c .is-free .result))
@@ -46,7 +46,7 @@ returns-2 : tie.Need-returns-2 Inv-loop μ-loop
 returns-2 c =
     let l = c .before .loop in
     let a = c .before .before .before .args in
-    tally-yes (a .cells .now) (a .end) (l .free) (sym (l .inv .2) ∙ pass-none (a .cells .now) (l .c) (c .loop-test .left) _ (a .end))
+    pass-yes (a .cells .now) (a .end) (l .free) (sym (l .inv .2) ∙ pass-none (a .cells .now) (l .c) (c .loop-test .left) _ (a .end))
     (omega (arith, count-none (a .cells .now) (l .c) (c .loop-test .left)))
 
 pub cells-sound-spec : {M : Type 1} → statement M

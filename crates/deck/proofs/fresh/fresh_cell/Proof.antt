@@ -1,6 +1,6 @@
 use Rattle.paper.proofs.Kit.{add-one, ap, _∙_, sym, needs}
 use Rattle.paper.specs.Deck.{nextFree}
-use Rattle.paper.proofs.FreshLaws.{f-zero, f-H2, f-HW, f-J, f-region, f-free}
+use Rattle.paper.proofs.FreshLaws.{f-zero, f-H2, f-H3, f-HW, f-J, f-region, f-free}
 use Rattle.deck.proofs.FreshLaws.{packs-as, empty-packs}
 use Rattle.paper.specs.declared.Symbol.{Symbol}
 use Rattle.paper.specs.Cell.{word, free, mkWord, emptyWord}
@@ -20,26 +20,30 @@ returns-2 c =
     (c .of-fields2 .ensures)
 
 returns-3 : tie.Need-returns-3
-returns-3 c =
-    let c₁ = c .before in
-    packs-as (f-HW _ _ _ (c₁ .before .if1 .left) (c₁ .if2 .left) (c .if3 .taken)) empty-packs
+returns-3 c = packs-as (f-H3 _ _ _ (c .before .if3 .taken)) (c .of-term .ensures)
 
 returns-4 : tie.Need-returns-4
 returns-4 c =
     let c₁ = c .before in
-    packs-as (f-J _ _ _ (c₁ .before .if3 .left) (c₁ .if4 .taken)) (c .of-process .ensures)
+    let c₂ = c₁ .before in
+    packs-as (f-HW _ _ _ (c₂ .before .if1 .left) (c₂ .if2 .left) (c₁ .if3 .left) (c .if4 .taken)) empty-packs
 
 returns-5 : tie.Need-returns-5
-returns-5 c = packs-as (f-region _ _ _ (c .before .if4 .left) (c .if5 .taken)) empty-packs
+returns-5 c =
+    let c₁ = c .before in
+    packs-as (f-J _ _ _ (c₁ .before .if4 .left) (c₁ .if5 .taken)) (c .of-process .ensures)
 
 returns-6 : tie.Need-returns-6
-returns-6 c =
+returns-6 c = packs-as (f-region _ _ _ (c .before .if5 .left) (c .if6 .taken)) empty-packs
+
+returns-7 : tie.Need-returns-7
+returns-7 c =
     let c₁ = c .before in
     let c₂ = c₁ .before in
     let c₃ = c₂ .before in
     let c₄ = c₃ .before .before .before .before in
     packs-as
-    (f-free _ _ _ (c₃ .if4 .left) (c₂ .if5 .left)
+    (f-free _ _ _ (c₃ .if5 .left) (c₂ .if6 .left)
     ∙ ap free (sym (c₁ .next-free2 .ensures ∙ ap (nextFree (c₄ .args .size)) (add-one (c₄ .args .c))))) (c .of-free .ensures)
 
 pub fresh-cell-spec : {M : Type 1} → statement M
@@ -52,11 +56,13 @@ fresh-cell-spec =
     (λ c κs. search needs)
     (λ c κs. search needs)
     returns-2
-    returns-3
     (λ c κs. search needs)
+    returns-3
     returns-4
+    (λ c κs. search needs)
     returns-5
+    returns-6
     (λ c. search needs)
     (λ c κs. search needs)
     (λ c κs. search needs)
-    returns-6)
+    returns-7)
