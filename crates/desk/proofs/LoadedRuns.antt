@@ -1,14 +1,14 @@
 -- Demand 1, carried to the loader's call: of every outcome that the contract of `deck::load` allows. Each statement can be read without its
 -- proof.
 use Rattle.paper.proofs.Kit.{ℕ, zero, suc, _≤_, _≡_, refl, sym, ap, subst, _∙_, Bool, true, false, cond, List, [], _∷_, arith, ltb, ltb-true, length}
-use Rattle.paper.proofs.Kit.{replicate, length-map}
+use Rattle.paper.proofs.Kit.{replicate, length-map, pos}
 use Rattle.paper.specs.declared.Fault.{Fault}
 use Rattle.paper.specs.declared.Fault.the-variants.{PastEnd, UnknownKind, BadField, BadRegion, BadName, NoWord, NoCell, NotEnded}
 use Rattle.paper.specs.declared.LoadAnswer.{LoadAnswer}
 use Rattle.paper.specs.declared.LoadAnswer.the-variants.{Loaded as AnswerLoaded, BadSize, Broken}
 use Rattle.paper.specs.Limits.{largestBudget}
 use Rattle.paper.specs.Answer.{loadNumber, faultNumber}
-use Rattle.paper.specs.Cell.{Cell, Region, word, zeros, sizeFits}
+use Rattle.paper.specs.Cell.{integer, Cell, Region, word, term, cellAt, zeros, sizeFits, H}
 use Rattle.paper.specs.Sound.{sound}
 use Rattle.paper.specs.Deck.{Ended, complete, broken, LoadOutcome, ending, records, freshBook, load}
 use Rattle.paper.proofs.SoundTest.{sound-from}
@@ -68,11 +68,12 @@ module _ (deck : List ℕ) (before : List Cell) where
   unfolding load
   out-of-range e = rw (e, load)
 
--- what a load that is answered 0 leaves: numbers and a table that the test of a run passes, and they are the definition's
+-- what a load that is answered 0 leaves: numbers and a table that the test of a run passes, they are the definition's, and H3 counts 0
 pub record Fit (r : Loaded) (s′ : List ℕ) (l : LoadOutcome) : Type 0 where
   pub size : sizeFits (length s′) ≡ true
   pub passes : storeSound (r .regions) s′ ≡ true
   pub is : (room : ℕ) → stateWith (r .regions) s′ [] room ≡ ready l room
+  pub counts : cellAt (unpacked s′) (H 3) ≡ term (integer (pos 0))
 
 -- the three ways of a load
 data Way (s s′ : List ℕ) (r : Loaded) (l : LoadOutcome) : Type 0 where
@@ -103,8 +104,9 @@ module _ (deck s : List ℕ) {s′ : List ℕ} {r : Loaded} (allowed : Loads dec
       let q : s′ ≡ packed (outcome .cells) = rw e at (allowed .numbers) in
       q ∙ ap (λ (x : LoadOutcome). packed (x .cells)) p
 
-  fits : (l : LoadOutcome) → outcome ≡ l → s′ ≡ packed (l .cells) → ((room : ℕ) → Runnable (ready l room)) → Fit r s′ outcome
-  fits l e n k =
+  fits : (l : LoadOutcome) → outcome ≡ l → s′ ≡ packed (l .cells) → ((room : ℕ) → Runnable (ready l room))
+      → cellAt (l .cells) (H 3) ≡ term (integer (pos 0)) → Fit r s′ outcome
+  fits l e n k z =
       let t = sound-from (ready l 0) (k 0 .size) (k 0 .test) in
       let each = sound-fits (t .frame) (ready l 0) (t .isSound) in
       let cs : unpacked s′ ≡ outcome .cells = ap unpacked n ∙ unpacked-packed (l .cells) each ∙ ap (λ (x : LoadOutcome). x .cells) (sym e) in
@@ -117,6 +119,7 @@ module _ (deck s : List ℕ) {s′ : List ℕ} {r : Loaded} (allowed : Loads dec
             in-form (r .regions) s′ [] 0 few (rw n (packed-formed (l .cells) each))
             ∙ ap sound (is 0) ∙ ap (λ (x : LoadOutcome). sound (ready x 0)) e ∙ k 0 .test;
         is = is;
+        counts = ap (λ cs. cellAt cs (H 3)) (ap unpacked n ∙ unpacked-packed (l .cells) each) ∙ z;
       }
 
   way : Way s s′ r outcome
@@ -124,9 +127,8 @@ module _ (deck s : List ℕ) {s′ : List ℕ} {r : Loaded} (allowed : Loads dec
     where
       byEnd : sizeFits (length s) ≡ true → (x : Ended) → outcome ≡ ending (length (unpacked s)) x → Way s s′ r outcome
       byEnd e (complete b) p =
-          loaded (answer-is p)
-          (fits (ending (length (unpacked s)) (complete b)) p (numbers-are e p)
-          (subst (λ (l : LoadOutcome). Leaves (unpacked s) l (l .answer)) p (load-leaves deck (unpacked s)) .0))
+          let (runs, counts) = subst (λ (l : LoadOutcome). Leaves (unpacked s) l (l .answer)) p (load-leaves deck (unpacked s)) in
+          loaded (answer-is p) (fits (ending (length (unpacked s)) (complete b)) p (numbers-are e p) runs counts)
       byEnd e (broken f o) p =
           refused f o (answer-is p)
           (numbers-are e p ∙ packed-zeros (length (unpacked s)) ∙ ap (λ n. replicate n 0) (unpacked-length s))
@@ -165,6 +167,10 @@ module _ (deck s : List ℕ) {s′ : List ℕ} {r : Loaded} (allowed : Loads dec
         size = ap sizeFits (unpacked-length s′) ∙ f .size;
         test = passed-sound (r .regions) s′ [] 0 (f .passes);
       })
+
+  -- answered 0: H3 counts 0
+  pub loaded-counts : loadNumber (r .answer) ≡ 0 → cellAt (unpacked s′) (H 3) ≡ term (integer (pos 0))
+  loaded-counts h = loaded-fits h .counts
 
   -- "Load answers 2 to 9 leave all cells zero (words of zeros) and the region table empty."
   pub refused-leaves-zeros : 2 ≤ loadNumber (r .answer) → (s′ ≡ replicate (length s) 0) × (r .regions ≡ noRegions)

@@ -15,9 +15,10 @@ use Rattle.paper.specs.Cycle.{cycle}
 use Rattle.paper.specs.Sound.{sound}
 use Rattle.paper.specs.Run.{Turn, finishes, stops, continues, isFinished, Outcome, outcome, alone, afterCycle, turn, onTurn, runFrom}
 use Rattle.cycle.specs.Turns.{cycled}
-use Rattle.paper.proofs.SoundStore.{Sound, and-true}
+use Rattle.paper.proofs.SoundStore.{Frame, Sound, and-true}
 use Rattle.paper.proofs.SoundTest.{Tested, sound-from, sound-passes}
-use Rattle.paper.proofs.CycleLaws.{run-sound}
+use Rattle.paper.proofs.WrapLaws.{later}
+use Rattle.paper.proofs.CycleLaws.{tallying, RunOk, run-sound}
 use Rattle.paper.proofs.Demand1.{Runnable, FreeListed, free-listed}
 use Rattle.cells.specs.Pack.{packOf, packed}
 use Rattle.cells.proofs.Store.{unpacked-length}
@@ -144,18 +145,25 @@ module _ (regions : Regions) (s : List ℕ) (size : sizeFits (length s) ≡ true
     pub tested : Tested given
     tested = sound-from given (runnable [] (length out) .size) (runnable [] (length out) .test)
 
-    pub sound-after : Sound (tested .frame) after
-    sound-after = run-sound (tested .frame) budget 0 given (tested .isSound)
+    pub counted : RunOk (tested .frame) budget 0 (runFrom budget 0 given)
+    counted = run-sound (tested .frame) budget 0 given (tested .isSound)
+
+    -- its frame, with what H3 counts afterwards
+    abbrev pub frame-after : Frame
+    frame-after = tallying (tested .frame) (later (counted .more) (tested .frame .tally))
+
+    pub sound-after : Sound frame-after after
+    sound-after = counted .sound
 
     -- the numbers afterwards are those of the definition's state
     pub numbered : stateWith regions (packed (after .cells)) (after .lines) (after .room) ≡ after
-    numbered = rw (unpacked-packed (after .cells) (sound-fits (tested .frame) after sound-after), sym (tested .rs-is), sym (sound-after .regions))
+    numbered = rw (unpacked-packed (after .cells) (sound-fits frame-after after sound-after), sym (tested .rs-is), sym (sound-after .regions))
 
     passes-after : storeSound regions (packed (after .cells)) ≡ true
     passes-after =
         in-form regions (packed (after .cells)) (after .lines) (after .room) tabled
-        (packed-formed (after .cells) (sound-fits (tested .frame) after sound-after))
-        ∙ ap sound numbered ∙ sound-passes (tested .frame) after sound-after
+        (packed-formed (after .cells) (sound-fits frame-after after sound-after))
+        ∙ ap sound numbered ∙ sound-passes frame-after after sound-after
 
     size-after : length (packed (after .cells)) ≡ length s
     size-after = length-map (after .cells) packOf ∙ sound-after .size ∙ tested .n-is ∙ unpacked-length s

@@ -18,11 +18,11 @@ use Rattle.paper.proofs.ActLaws.{Ok}
 use Rattle.paper.proofs.ProcessLaws.{Kept}
 use Rattle.paper.proofs.PerformLaws.{s-perform}
 use Rattle.paper.proofs.WrapLaws.{wrapped-is, later}
-use Rattle.paper.proofs.CycleLaws.{s-work, counted, cycle-sound, H3-range, run-sound}
+use Rattle.paper.proofs.CycleLaws.{s-work, counted, cycle-sound, H3-range, RunOk, run-sound}
 use Rattle.paper.proofs.SoundTest.{Tested, sound-from}
 use Rattle.paper.proofs.Demand1.{Runnable}
 use Rattle.paper.proofs.LoadLaws.{ready, Leaves, load-leaves}
-use Rattle.paper.proofs.RunLines.{Unrun, by-cycles}
+use Rattle.paper.proofs.RunLines.{by-cycles}
 
 tested : (s : State) → Runnable s → Tested s
 tested s r = sound-from s (r .size) (r .test)
@@ -74,36 +74,37 @@ plain-leaves m k s r = rw (r .size, r .test, plainly) (go (m s) (leaves m s r k)
     go (done a t) e = e
     go (refused x) e = refl
 
--- a run counts its cycles: the tally afterwards is the tally before and so many more, wrapped
-record Tallied (s : State) (o : Outcome) : Type 0 where
-  is : tallyIn (o .state .cells) ≡ wrapped (tallyIn (s .cells) +ℤ pos (o .cycles))
-  most : o .cycles ≤ largestBudget
+-- the cycles of a run are counted: the tally afterwards is the tally before and so many more, wrapped
+pub record Tallied (s : State) (o : Outcome) : Type 0 where
+  pub is : tallyIn (o .state .cells) ≡ wrapped (tallyIn (s .cells) +ℤ pos (o .cycles))
 
-tallied : (budget : ℕ) (s : State) → Runnable s → Tallied s (run budget s)
-tallied budget s r = by-cycles (Tallied s) budget s ran unrun
-  where
-    ran : Runnable s → budget ≤ largestBudget → Tallied s (runFrom budget 0 s)
-    ran _ b =
-        let k = tested s r in
-        let o = run-sound (k .frame) budget 0 s (k .isSound) in
-        let e : o .more ≡ runFrom budget 0 s .cycles = omega (arith, o .cycles) in
-        let z = sym (counts (k .isSound)) in
-        record {
-          is = counts (o .sound) ∙ later-is (o .more) (k .frame .tally) ∙ (λ i. wrapped (z i +ℤ pos (e i)));
-          most = omega (arith, o .cycles, o .most);
-        }
+module _ (s : State) (r : Runnable s) where
+  from-start : (budget : ℕ) → RunOk (tested s r .frame) budget 0 (runFrom budget 0 s)
+  from-start budget = run-sound (tested s r .frame) budget 0 s (tested s r .isSound)
 
-    unrun : (a : RunAnswer) → Unrun a → Tallied s (outcome a 0 s)
-    unrun a _ =
-        let k = tested s r in
-        let e : mag (tallyIn (s .cells)) < halfRange = rw (counts (k .isSound)) (in-range (k .frame .tally) (H3-range (k .frame) s (k .isSound))) in
-        record { is = sym (ap wrapped (+ℤ-idr (tallyIn (s .cells))) ∙ wrapped-is (tallyIn (s .cells)) e); most = omega arith }
-      where
-        in-range : (t : Term) → TermRange t → mag (integerIn t) < halfRange
-        in-range (integer z) h = h
+  pub cycles-counted : (budget : ℕ) → Tallied s (runFrom budget 0 s)
+  cycles-counted budget =
+      let o = from-start budget in
+      let e : o .more ≡ runFrom budget 0 s .cycles = omega (arith, o .cycles) in
+      let z = sym (counts (tested s r .isSound)) in
+      record { is = counts (o .sound) ∙ later-is (o .more) (tested s r .frame .tally) ∙ (λ i. wrapped (z i +ℤ pos (e i))) }
+
+  none-counted : (a : RunAnswer) → Tallied s (outcome a 0 s)
+  none-counted a =
+      let e : mag (tallyIn (s .cells)) < halfRange =
+      rw (counts (tested s r .isSound)) (in-range (tested s r .frame .tally) (H3-range (tested s r .frame) s (tested s r .isSound))) in
+      record { is = sym (ap wrapped (+ℤ-idr (tallyIn (s .cells))) ∙ wrapped-is (tallyIn (s .cells)) e) }
+    where
+      in-range : (t : Term) → TermRange t → mag (integerIn t) < halfRange
+      in-range (integer z) h = h
+
+  few-cycles : (budget : ℕ) → run budget s .cycles ≤ largestBudget
+  few-cycles budget =
+      by-cycles (λ o. o .cycles ≤ largestBudget) budget s
+      (λ _ b. let o = from-start budget in omega (arith, o .cycles, o .most)) λ a u. omega arith
 
 pub run-counts : (budget : ℕ) (s : State) → Runnable s → let o = run budget s in tallyIn (o .state .cells) ≡ wrapped (tallyIn (s .cells) +ℤ pos (o .cycles))
-run-counts budget s r = tallied budget s r .is
+run-counts budget s r = by-cycles (Tallied s) budget s (λ _ _. cycles-counted s r budget) (λ a _. none-counted s r a) .is
 
 -- so, below the wrap, the count in H3 and the cycles of the answer cannot part
 pub counts-on : (budget m : ℕ) (s : State) → Runnable s → tallyIn (s .cells) ≡ pos m → let o = run budget s in m + o .cycles < halfRange
@@ -117,5 +118,5 @@ loaded-counts deck before budget room h =
     let l = load deck before in
     let k = subst (Leaves before l) h (load-leaves deck before) in
     let s = ready l room in
-    counts-on budget 0 s (k .0 room) (ap (λ x. integerIn (termIn x)) (k .1)) (omega (arith, tallied budget s (k .0 room) .most))
+    counts-on budget 0 s (k .0 room) (ap (λ x. integerIn (termIn x)) (k .1)) (omega (arith, few-cycles s (k .0 room) budget))
     ∙ ap pos (zero-add (run budget s .cycles))

@@ -4,7 +4,7 @@ use Rattle.paper.proofs.Kit.{ℕ, zero, suc, _+_, _≤_, _≡_, refl, sym, ap, 
 use Rattle.paper.proofs.Kit.{leb, leb-true}
 use Rattle.paper.specs.declared.RunAnswer.{RunAnswer}
 use Rattle.paper.specs.declared.RunAnswer.the-variants.{Finished, BadSize, BudgetSpent, NotSound, Refused as Stopped}
-use Rattle.paper.specs.Cell.{State, sizeFits}
+use Rattle.paper.specs.Cell.{cellAt, H, State, sizeFits}
 use Rattle.paper.specs.declared.Refusal.{Refusal}
 use Rattle.paper.specs.Act.{Act, Res, done, refused}
 use Rattle.paper.specs.Walk.{walkBack}
@@ -17,8 +17,10 @@ use Rattle.paper.proofs.ActLaws.{s-preserve}
 use Rattle.paper.proofs.ProcessLaws.{Kept, s-J72, s-J74}
 use Rattle.paper.proofs.Handed.{when-done}
 use Rattle.paper.proofs.Demand1.{Runnable}
+use Rattle.paper.proofs.TallyLaws.{plain-leaves}
 use Rattle.paper.proofs.Demand3.{CanCopy, plainly-back, inH0, Erased, J72-frees}
 use Rattle.cells.specs.Pack.{packOf, packed}
+use Rattle.cells.specs.Bridge.{unpacked}
 use Rattle.cells.proofs.Store.{unpacked-length, packed-unpacked}
 use Rattle.regions.specs.declared.Regions.{Regions}
 use Rattle.regions.specs.Table.{regionsOf}
@@ -147,6 +149,15 @@ module _ (r : Regions) (s : List ℕ) (size : sizeFits (length s) ≡ true) (pas
             ∙ ap sound (numbered r (length s) t p) ∙ sound-passes (p .frame) t (p .isSound),
         ap length q ∙ length-map (t .cells) packOf ∙ p .isSound .size ∙ p .many,
       )
+
+  -- and H3 is as it was
+  pub call-leaves-H3 : {m : Act (Unit {0})} → ((F : Frame) → Kept F m) → {a : RunAnswer} {s₁ : List ℕ} → numbers a s₁ ≡ plainOn m r s
+      → cellAt (unpacked s₁) (H 3) ≡ cellAt (unpacked s) (H 3)
+  call-leaves-H3 {m} k e =
+      let t = plainly m given .state in
+      ap (λ (n : Numbers). cellAt (unpacked (n .cells)) (H 3)) (e ∙ begins m)
+      ∙ ap (λ (u : State). cellAt (u .cells) (H 3)) (numbered r (length s) t (plain-after r (length s) k given plain))
+      ∙ plain-leaves m k given runnable
 
   -- whenever the call erase finishes, it frees the structure's cells, once each, and one popped from H0, and changes nothing else but
   -- H0 and H2: `Erased` of paper/proofs/Demand3

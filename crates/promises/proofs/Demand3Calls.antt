@@ -36,11 +36,11 @@ use Rattle.promises.proofs.FreeLaws.{free-count}
 use Rattle.promises.proofs.Freed.{Freed, freed-so}
 
 -- what a call asks first: it is answered at once, and not with Finished, or the store passes
-data Way (r : Regions) (s : List ℕ) : Type 0 where
+pub data Way (r : Regions) (s : List ℕ) : Type 0 where
   answered : (a : RunAnswer) → unfit r s ≡ some a → a ≢ Finished → Way r s
   passed : Passed r s (endOfRegions (regionsOf r) firstDeck) → Way r s
 
-way : (r : Regions) (s : List ℕ) → Way r s
+pub way : (r : Regions) (s : List ℕ) → Way r s
 way r s = bySize (sizeFits (length s)) refl
   where
     bySound : sizeFits (length s) ≡ true → (b : Bool) → storeSound r s ≡ b → Way r s

@@ -1,19 +1,20 @@
 -- Demands 1 and 2 of the call machine::run, cycle by cycle: "After every cycle the free cells are exactly those on the H2 list, each once."
 -- A run with a budget of k is what shows the store after k cycles. Each statement can be read without its proof.
 use Rattle.paper.proofs.Kit.{clash, ℕ, zero, suc, _+_, _-_, _≤_, _≡_, refl, sym, ap, subst, _∙_, Bool, true, false, List, [], inl, inr, none, some, arith}
-use Rattle.paper.proofs.Kit.{length, take, drop, take-append-seam}
+use Rattle.paper.proofs.Kit.{length, take, drop, take-append-seam, pos, _+ℤ_}
 use Rattle.paper.specs.declared.Refusal.{Refusal}
 use Rattle.paper.specs.declared.RunAnswer.{RunAnswer}
 use Rattle.paper.specs.declared.RunAnswer.the-variants.{Finished, BudgetSpent, Refused}
 use Rattle.paper.specs.Limits.{largestBudget}
 use Rattle.paper.specs.Answer.{runNumber}
-use Rattle.paper.specs.Cell.{Region, State, sizeFits}
+use Rattle.paper.specs.Cell.{Region, State, sizeFits, tallyIn}
 use Rattle.paper.specs.Act.{Res, done, refused}
-use Rattle.paper.specs.Cycle.{cycle}
+use Rattle.paper.specs.Cycle.{wrapped, cycle}
 use Rattle.paper.specs.Run.{Outcome, outcome, isFinished, Turn, finishes, stops, continues, alone, joined, afterCycle, turn, onTurn, runFrom}
 use Rattle.paper.specs.Sound.{sound}
 use Rattle.paper.proofs.Safe.{After}
 use Rattle.paper.proofs.Demand1.{FreeListed, Left, free-listed, every-cycle as every-one}
+use Rattle.paper.proofs.TallyLaws.{cycle-counts}
 use Rattle.regions.specs.declared.Regions.{Regions}
 use Rattle.regions.specs.Table.{regionsOf}
 use Rattle.sound.specs.Store.{stateWith, storeSound}
@@ -30,7 +31,7 @@ use Rattle.machine.specs.Numbers.{numbers, cyclesOn, runOn}
 use Rattle.machine.proofs.RunLaws.{run-finishes, run-spent, run-cycles}
 use Rattle.machine.proofs.Carried.{Before, Way, small, unsound, ran, way, given, after, tested, sound-after, numbered, answer-is, cells-are, out-is, runnable}
 use Rattle.machine.proofs.Carried.{tabled, cycles-are, len-is, run-keeps-sound, run-keeps-size, run-keeps-past, run-lists-free, run-within-budget}
-use Rattle.promises.specs.Cycles.{afterCycles, EndsAs}
+use Rattle.promises.specs.Cycles.{afterCycles, tallyOf, EndsAs}
 
 -- a turn that goes on
 module _ (t u : State) (e : turn t ≡ continues u) where
@@ -215,9 +216,10 @@ module _ (regions : Regions) (budget : ℕ) (s out : List ℕ) {r : Ran} {s′ o
         )
 
 -- What a call of cycle::cycle leaves of the numbers s and the bytes out. Progress: the free cells are exactly those on the H2 list, each once,
--- and the numbers pass the test again. Refused: "leaves cells and printed lines as it found them"
+-- the numbers pass the test again, and H3 counts one more. Refused: "leaves cells and printed lines as it found them"
 abbrev pub Leaves : Regions → (s out s′ out′ : List ℕ) → Cycled → Type 0
-Leaves regions s out s′ out′ (Progress n) = FreeListed (stateWith regions s′ [] 0) × (storeSound regions s′ ≡ true) × (length s′ ≡ length s)
+Leaves regions s out s′ out′ (Progress n) =
+    FreeListed (stateWith regions s′ [] 0) × (storeSound regions s′ ≡ true) × (length s′ ≡ length s) × (tallyOf s′ ≡ wrapped (tallyOf s +ℤ pos 1))
 Leaves regions s out s′ out′ (Stopped e) = (s′ ≡ s) × (out′ ≡ out)
 
 -- on numbers that pass the test, with a table that tells the same regions
@@ -229,19 +231,23 @@ module _ (regions : Regions) (s out : List ℕ) (at : ℕ) (size : sizeFits (len
 
     -- what an accepted cycle leaves
     passes-on : (s′ out′ : List ℕ) (n : ℕ) → AllFormed s′ → cycled before ≡ continues (stateAt (regionsOf regions) s′ out′ n)
-        → (storeSound regions s′ ≡ true) × (length s′ ≡ length s)
+        → (storeSound regions s′ ≡ true) × (length s′ ≡ length s) × (tallyOf s′ ≡ wrapped (tallyOf s +ℤ pos 1))
     unfolding afterCycle sound
-    passes-on s′ out′ n f e = go (cycle (alone before)) (every-one (alone before) (runnable regions s size passes [] (length out - at))) e
+    passes-on s′ out′ n f e =
+        let r = runnable regions s size passes [] (length out - at) in
+        go (cycle (alone before)) (every-one (alone before) r) (cycle-counts (alone before) r) e
       where
         go : (x : Res State Refusal (Unit {0})) → After x (λ a v. Left (alone before) v)
+            → After x (λ a v. tallyIn (v .cells) ≡ wrapped (tallyOf s +ℤ pos 1))
             → afterCycle before x ≡ continues (stateAt (regionsOf regions) s′ out′ n)
-            → (storeSound regions s′ ≡ true) × (length s′ ≡ length s)
-        go (done a v) l q =
+            → (storeSound regions s′ ≡ true) × (length s′ ≡ length s) × (tallyOf s′ ≡ wrapped (tallyOf s +ℤ pos 1))
+        go (done a v) l z q =
             let j : joined before v ≡ stateAt (regionsOf regions) s′ out′ n = cc in (
               in-form regions s′ (take n out′) (length out′ - n) (tabled regions s size passes) f ∙ ap sound (sym j) ∙ l .runnable .test,
               sym (unpacked-length s′) ∙ ap (λ (w : State). length (w .cells)) (sym j) ∙ l .within .cells ∙ unpacked-length s,
+              ap (λ (w : State). tallyIn (w .cells)) (sym j) ∙ z,
             )
-        go (refused q) l p = clash cc
+        go (refused q) l z p = clash cc
 
     -- of every outcome that the contract of cycle::cycle allows
     pub cycle-leaves : {s′ out′ log order marks : List ℕ} (c : Cycled)
@@ -250,6 +256,6 @@ module _ (regions : Regions) (s out : List ℕ) (at : ℕ) (size : sizeFits (len
     unfolding Came
     cycle-leaves {s′} {out′} (Progress n) h =
         let k = h (regionsOf regions) tells in
-        let (f, m) = passes-on s′ out′ n (k .formed (passed-formed regions s passes)) (k .came .0) in
-        (free-listed (stateWith regions s′ [] 0) (runnable regions s′ (ap sizeFits m ∙ size) f [] 0), f, m)
+        let (f, m, z) = passes-on s′ out′ n (k .formed (passed-formed regions s passes)) (k .came .0) in
+        (free-listed (stateWith regions s′ [] 0) (runnable regions s′ (ap sizeFits m ∙ size) f [] 0), f, m, z)
     cycle-leaves (Stopped e) h = let k = h (regionsOf regions) tells in (k .came .1, k .came .2)

@@ -1,5 +1,5 @@
 -- The promises are not had emptily: stores for which their hypotheses hold, by computation.
-use Rattle.paper.proofs.Kit.{ℕ, _≡_, refl, [], arith}
+use Rattle.paper.proofs.Kit.{ℕ, _≡_, refl, [], arith, pos}
 use Rattle.paper.specs.declared.RunAnswer.the-variants.{Finished, BudgetSpent}
 use Rattle.paper.specs.Cell.{regional, J}
 use Rattle.paper.specs.Act.{done}
@@ -16,6 +16,7 @@ use Rattle.plain.specs.Numbers.{plainOn}
 use Rattle.plain.specs.Walks.{walkOn}
 use Rattle.plain.proofs.GivesBack.{GaveBack}
 use Rattle.promises.specs.Free.{freeNumbers}
+use Rattle.promises.specs.Cycles.{tallyOf}
 use Rattle.promises.specs.Example.{table, fresh, five, erasing, exampleOpen}
 use Rattle.promises.proofs.Demand3Calls.{copy-and-erase}
 use Rattle.promises.proofs.InCycle.{Executes}
@@ -39,6 +40,11 @@ five-back =
 pub one-cycle : let n = runOn table 1 fresh [] in (n .answer ≡ BudgetSpent) × (n .cycles ≡ 1) × (n .cells ≡ five)
 unfolding exampleOpen runOn
 one-cycle = (refl, refl, refl)
+
+-- what H3 counts before it and after it: `Tally.run-counts` speaks of it
+pub counts-one : (tallyOf fresh ≡ pos 0) × (tallyOf five ≡ pos 1)
+unfolding exampleOpen
+counts-one = (refl, refl)
 
 -- a cycle that executes J72, and is accepted: `J72-in-cycle` speaks of it
 pub erases : Runnable erasing × Executes 72 0 erasing × (cycle erasing ≡ done tt (runFrom 1 0 erasing .state))

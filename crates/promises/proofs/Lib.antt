@@ -6,4 +6,5 @@ pub mod Freed
 pub mod Demand3Calls
 pub mod InCycle
 pub mod Lines
+pub mod Tally
 pub mod ExampleHolds

@@ -1,11 +1,14 @@
--- Cycles one after another: the turn of a run alone, with no budget, no answer and no count.
+-- Cycles one after another: the turn of a run alone, with no budget, no answer and no count; and what H3 counts.
 use Prim.Native.Nat.{ℕ, zero, suc, _<_}
 use mathlib.Core.Path.{_≡_}
 use mathlib.Core.Bool.{true, false}
 use mathlib.Core.Option.{Option, none, some}
+use mathlib.Core.List.{List}
+use lib.IntN.{ℤ}
 use Rattle.paper.specs.declared.RunAnswer.{RunAnswer}
 use Rattle.paper.specs.declared.RunAnswer.the-variants.{Finished, BadSize, BudgetSpent, NotSound, Refused}
-use Rattle.paper.specs.Cell.{State}
+use Rattle.paper.specs.Cell.{State, tallyIn}
+use Rattle.cells.specs.Bridge.{unpacked}
 use Rattle.paper.specs.Act.{refused}
 use Rattle.paper.specs.Cycle.{cycle}
 use Rattle.paper.specs.Run.{isFinished, alone, turn, onTurn}
@@ -14,6 +17,10 @@ use Rattle.paper.specs.Run.{isFinished, alone, turn, onTurn}
 unfoldable pub afterCycles : ℕ → State → Option State
 afterCycles zero s = some s
 afterCycles (suc k) s = onTurn (turn s) none (λ _. none) (λ t. afterCycles k t)
+
+-- what the numbers s count in H3
+abbrev pub tallyOf : List ℕ → ℤ
+tallyOf s = tallyIn (unpacked s)
 
 -- why a run ends in the state t with so many cycles done: "the run is finished"; "budget spent"; the next cycle is refused. 1 and 20 end none
 abbrev pub EndsAs : (budget cycles : ℕ) → State → RunAnswer → Type 0

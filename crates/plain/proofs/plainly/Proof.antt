@@ -32,6 +32,12 @@ passed c =
     let p = start c .args in
     subst (λ q. Asks (p .regions) (p .cells .now) q) (c .q2 .given .1) (c .before .before .asks .ensures)
 
+begin-requires : tie.Need-begin-requires
+begin-requires c κs =
+    let c₁ = c .before .before .before in
+    let n = size-range (length (start c₁ .args .cells .now)) (passed c₁ .size) in
+    (omega (arith, n .0), omega (arith, length-replicate {A = ℕ} places 0))
+
 act-requires : tie.Need-act-requires
 act-requires c κs =
     let c₁ = c .before .before .before .before .before in
@@ -69,7 +75,7 @@ plainly-spec =
     (λ c. search needs)
     (λ c. search needs)
     (λ c. search needs)
-    (λ c κs. search needs)
+    begin-requires
     (λ c. search needs)
     act-requires
     (λ c. search needs)

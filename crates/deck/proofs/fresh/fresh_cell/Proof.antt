@@ -41,7 +41,7 @@ returns-7 c =
     let c₁ = c .before in
     let c₂ = c₁ .before in
     let c₃ = c₂ .before in
-    let c₄ = c₃ .before .before .before .before in
+    let c₄ = c₃ .before .before .before .before .before in
     packs-as
     (f-free _ _ _ (c₃ .if5 .left) (c₂ .if6 .left)
     ∙ ap free (sym (c₁ .next-free2 .ensures ∙ ap (nextFree (c₄ .args .size)) (add-one (c₄ .args .c))))) (c .of-free .ensures)
