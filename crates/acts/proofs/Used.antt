@@ -1,18 +1,20 @@
 -- A cell that is touched, by what the code has found out of it, in the form in which `search touching` finds the proof of a way out.
-use Rattle.paper.proofs.Kit.{clash, ℕ, _≡_, refl, _∙_, sym, _≢_, Bool, true, false, List, Option, none, some, ne-eqb}
+use Rattle.paper.proofs.Kit.{clash, _||_, ℕ, _<_, _≡_, refl, ap, _∙_, sym, _≢_, Bool, true, false, List, Option, none, some, arith, eqb, ne-eqb}
 use Rattle.paper.specs.declared.Refusal.{Refusal}
 use Rattle.paper.specs.declared.Refusal.the-variants.{CellZero, FreeCell, OwnCell}
-use Rattle.paper.specs.Cell.{Cell, free, word, term, process, isFree, isWord, isTerm, State}
-use Rattle.paper.specs.Act.{Act, Res, done, refused, _>>=_, _>>_, ret, refuse, refuseIf, touch, target}
+use Rattle.paper.specs.Cell.{Word, Cell, free, word, term, process, isFree, isWord, isTerm, State}
+use Rattle.paper.specs.Act.{Act, Res, done, refused, _>>=_, _>>_, ret, refuse, refuseIf, touch, target, wordAt, wordTo, notOwn}
 use Rattle.paper.proofs.SoundStore.{never}
 use Rattle.cells.specs.Bridge.{Rest, cellIn}
 use Rattle.steps.specs.Follows.{left, Follows}
-use Rattle.steps.proofs.Steps.{bind-same}
+use Rattle.steps.specs.Follows as steps
+use Rattle.steps.proofs.Steps.{bind-same, bind-bind, then-bind}
 use Rattle.steps.proofs.Join.{to-alike}
-use Rattle.steps.proofs.Sequence.{bind, undone, give}
+use Rattle.steps.proofs.Sequence.{Judged, bind, undone, give}
 use Rattle.undo.specs.Verdict.{told}
 use Rattle.undo.specs.Did.{reading}
 use Rattle.undo.proofs.Auto.{r-peek}
+use Rattle.acts.specs.Named.{namedTo}
 use Rattle.undo.proofs.Early.{early, t-fails-as, t-fails-eq, t-passes, t-passes-eq, r-stops, r-goes}
 
 -- words and data terms are in use
@@ -85,5 +87,21 @@ module _ {B : Type 0} {K : Rest → Type 0} {s : List ℕ} {a : Option Refusal} 
 
   pub r-other : {r : Option Refusal} → c ≢ 4 → Follows reading K 0 (touch c >>= g) s a s r u → Follows reading K 0 (target c >>= g) s a s r u
   r-other n d = record { is = λ w k. to-alike (bind-same (target c) (touch c) g _ _ (as-touched c n _)) (d .is w k); kept = tt }
+
+-- past H3 a word that is named, to be written, is met like any word
+module _ (c : ℕ) (far : 4 < c) where
+  passes : {r : Option Refusal} → Judged {S = State} steps.Always (notOwn c) r r
+  unfolding notOwn
+  passes = t-passes (OwnCell c) (eqb c 2 || eqb c 3) (rw (ne-eqb c 2 (omega arith), ne-eqb c 3 (omega arith)))
+
+  pub r-far : {K : Rest → Type 0} {s : List ℕ} {a r : Option Refusal} {u : Word} → Follows reading K 0 (wordAt c) s a s r u
+      → Follows reading K 0 (namedTo c) s a s r u
+  unfolding namedTo wordTo wordAt
+  r-far d = bind _ {j = 0} (r-other c _ (omega arith) d) (r-goes _ _ passes give)
+
+-- the checks of a preserve are this block
+pub named-then : {B : Type 0} (c : ℕ) (g : Word → Act B) → (namedTo c >>= g) ≡ (wordTo c >>= (λ w. notOwn c >> g w))
+unfolding namedTo ret _>>=_
+named-then c g = bind-bind g (wordTo c) (λ w. notOwn c >> ret w) ∙ ap (λ h. wordTo c >>= h) (λ i w. then-bind g (notOwn c) (ret w) i)
 
 pub ruleset touching = (early, r-zero, r-free, r-used, r-word, r-term)

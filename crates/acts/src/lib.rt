@@ -17,6 +17,7 @@ ghost use Rattle.cells.specs.Pack.{packOf};
 ghost use Rattle.undo.specs.Log.{Room, writes};
 ghost use Rattle.undo.specs.Did.{Judged, Always, Top, Suits, reservedBy, nameBy, Sees, Reads, Did};
 ghost use Rattle.acts.specs.Net.{stays};
+ghost use Rattle.acts.specs.Named.{namedTo};
 use paper::Symbol;
 use paper::limits;
 
@@ -211,6 +212,20 @@ pub fn named(cells: &[u64], go: u32, c: u16) -> Got
     g
 }
 
+// A word that is to be preserved. Past H3, as nearly all are, nothing is asked of its number.
+fn named_to(cells: &[u64], go: u32, c: u16) -> Got
+    ensures { λ r. ⌜ Reads Always (namedTo c) cells go (r .go) (wordOf (r .x)) ⌝ }
+{
+    if limits::H3 < c {
+        return word_at(cells, go, c);
+    }
+    let g = word_to(cells, go, c);
+    Got {
+        go: not_own(g.go, c),
+        x: g.x,
+    }
+}
+
 pub fn read_at(cells: &[u64], go: u32, c: u16) -> Got
     ensures { λ r. ⌜ Reads Always (readAt c) cells go (r .go) (wordOf (r .x)) ⌝ }
 {
@@ -298,9 +313,8 @@ pub fn preserve(cells: &mut [u64], log: &mut [u64], go: u32, c: u16) -> u32
     requires { ⌜ Room (now log) 2 ⌝ }
     ensures { λ r. ⌜ Did Always 2 (preserve c) cells log go r tt ⌝ }
 {
-    let g = word_to(cells, go, c);
-    let go = not_own(g.go, c);
-    link_below(cells, log, go, c, g.x, g.x)
+    let g = named_to(cells, go, c);
+    link_below(cells, log, g.go, c, g.x, g.x)
 }
 
 pub fn has_below(go: u32, c: u16, w: u64) -> u32

@@ -1,11 +1,11 @@
 -- The count in H3 as its number: one more in the bits, but 0 after the last.
-use Rattle.paper.proofs.Kit.{ℕ, suc, _+_, _-_, _*_, _%_, _^_, _<_, _≤_, _≡_, refl, ap, _∙_, List, arith, length, getD, set, decLt, ℤ, pos, negsuc, _+ℤ_, +ℤ-one, sucℤ}
-use Rattle.paper.specs.Cell.{Term, integer, Cell, term, termIn, withCells}
+use Rattle.paper.proofs.Kit.{ℕ, suc, _+_, _-_, _*_, _%_, _^_, _<_, _≤_, _≡_, refl, ap, List, arith, length, getD, set, decLt, ℤ, pos, negsuc, _+ℤ_, +ℤ-one, sucℤ}
+use Rattle.paper.specs.Cell.{Term, integer, term, termIn, withCells}
 use Rattle.paper.specs.Act.{done, _>>=_, peek, put}
 use Rattle.paper.specs.Cycle.{wrapped, oneMore, count}
 use Rattle.cells.specs.Layout.{unpackOf, valueOf, termOf}
 use Rattle.cells.specs.Pack.{Packs}
-use Rattle.cells.specs.Bridge.{Rest, cellIn, stateOf}
+use Rattle.cells.specs.Bridge.{cellIn, stateOf}
 use Rattle.cells.proofs.Laws.{unpack-term, value-low, value-high, packs-term}
 use Rattle.cells.proofs.Store.{cell-at, unpacked-set, formed-set}
 use Rattle.cycle.specs.Turns.{Counted}

@@ -1,5 +1,5 @@
 -- A cycle as a whole: the lines so far are the first bytes of the room that was lent, and a refusal leaves all as it was.
-use Prim.Native.Nat.{ℕ, suc, _+_, _-_, _*_, _<_, _≤_}
+use Prim.Native.Nat.{ℕ, _+_, _-_, _*_, _<_, _≤_}
 use mathlib.Core.Path.{_≡_}
 use mathlib.Core.Option.{some}
 use mathlib.Core.List.{List}

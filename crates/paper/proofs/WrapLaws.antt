@@ -1,5 +1,5 @@
 -- The arithmetic of the tally: so many more, wrapped.
-use Rattle.paper.proofs.Kit.{_≡_, refl, sym, ap, _∙_, ℕ, zero, suc, _+_, _-_, _%_, _<_, arith, ℤ, pos, negsuc, _+ℤ_, +ℤ-one, +ℤ-assoc, +ℤ-idr, sucℤ, mag}
+use Rattle.paper.proofs.Kit.{_≡_, refl, ap, _∙_, ℕ, zero, suc, _+_, _-_, _<_, arith, ℤ, pos, negsuc, _+ℤ_, +ℤ-one, +ℤ-assoc, +ℤ-idr, sucℤ, mag}
 use Rattle.paper.specs.Limits.{halfRange}
 use Rattle.paper.specs.Cell.{Term, integer}
 use Rattle.paper.specs.Cycle.{wrapped, oneMore}

@@ -1,6 +1,6 @@
 -- What H3 counts (CR 8), of every outcome that the contracts of the calls allow. Each statement can be read without its proof. That an accepted
 -- call of cycle::cycle counts one more is in EveryCycle (`Leaves`).
-use Rattle.paper.proofs.Kit.{ℕ, _+_, _<_, _≤_, _≡_, refl, sym, ap, _∙_, List, [], arith, length, pos, _+ℤ_, zero-add}
+use Rattle.paper.proofs.Kit.{ℕ, _+_, _<_, _≤_, _≡_, sym, ap, _∙_, List, [], arith, length, pos, _+ℤ_, zero-add}
 use Rattle.paper.specs.declared.RunAnswer.{RunAnswer}
 use Rattle.paper.specs.Limits.{halfRange, largestBudget}
 use Rattle.paper.specs.Answer.{loadNumber}

@@ -1,5 +1,5 @@
 -- The number of a cell: when it is in form, and what soundness asks of it, by its kind.
-use Rattle.paper.proofs.Kit.{_||_, ℕ, _+_, _*_, _%_, _^_, _<_, _≤_, Bool, true, false, cond, _&&_, and-assoc, and-true, true≢false, _≡_, refl, ap, sym, _∙_}
+use Rattle.paper.proofs.Kit.{ℕ, _+_, _*_, _%_, _^_, _<_, _≤_, Bool, true, false, cond, _&&_, and-assoc, and-true, true≢false, _≡_, refl, ap, sym, _∙_}
 use Rattle.paper.proofs.Kit.{arith, lt-ltb, eq-eqb, ne-eqb, ltb-true, ltb-false, eqb-true, eqb-false, ltb, leb, eqb, ℤ, pos, negsuc}
 use Rattle.paper.specs.Cell.{word, integer, termFits}
 use Rattle.paper.specs.Sound.{wordSound, takesWord, takesTerm, cellSound, isZeros}
