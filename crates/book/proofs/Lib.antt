@@ -3,3 +3,4 @@ pub mod Verdict
 pub mod Lines
 pub mod KeptLaws
 pub mod StepLaws
+pub mod StartLaws

@@ -4,7 +4,7 @@ use mathlib.Core.Bool.{cond}
 use mathlib.Core.Option.{Option, none, some}
 use lib.Dec.{eqb}
 use Rattle.paper.specs.declared.Fault.{Fault}
-use Rattle.paper.specs.declared.Fault.the-variants.{PastEnd, UnknownKind, BadField, BadRegion, BadName, NoWord, NoCell, NotEnded}
+use Rattle.paper.specs.declared.Fault.the-variants.{PastEnd, UnknownKind, BadField, BadRegion, BadName, NoWord, NoCell, NotEnded, Hopeless}
 
 -- the fault that has an answer number
 abbrev pub faultBy : ℕ → Fault
@@ -15,7 +15,8 @@ faultBy n =
     (cond (eqb n 5) BadRegion
     (cond (eqb n 6) BadName
     (cond (eqb n 7) NoWord
-    (cond (eqb n 8) NoCell NotEnded))))))
+    (cond (eqb n 8) NoCell
+    (cond (eqb n 9) NotEnded Hopeless)))))))
 
 -- what a verdict says
 unfoldable pub toldFault : ℕ → Option Fault

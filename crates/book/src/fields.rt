@@ -1,6 +1,6 @@
 // What a symbol of a deck tells by its class.
 ghost use mathlib.Core.Path.{_≡_};
-ghost use Rattle.paper.specs.Deck.{dataTag, isBlank};
+ghost use Rattle.paper.specs.Deck.{dataTag, isBlank, isMissing};
 use paper::Field;
 use paper::Symbol;
 
@@ -24,5 +24,17 @@ pub fn is_blank(f: Field) -> bool
         Field::Local(_) => false,
         Field::Zero => false,
         Field::Blank => true,
+    }
+}
+
+// CR 5: "a process we don't have".
+pub fn is_missing(f: Field) -> bool
+    ensures { λ r. ⌜ r ≡ isMissing f ⌝ }
+{
+    match f {
+        Field::Regional(b, n) => (b == b'J') & !paper::is_listed(n),
+        Field::Local(_) => false,
+        Field::Zero => false,
+        Field::Blank => false,
     }
 }

@@ -5,16 +5,17 @@ ghost use mathlib.Core.Option.{some};
 ghost use Prim.Native.Nat.{ℕ, _<_};
 ghost use lib.Dec.{eqb};
 ghost use lib.ListN.{set};
-ghost use Rattle.paper.specs.Cell.{Cell};
+ghost use mathlib.Core.List.{List};
+ghost use Rattle.paper.specs.Cell.{Cell, Region};
 ghost use Rattle.cells.specs.Pack.{Packs};
 ghost use Rattle.paper.specs.Step.{refuseIf, ret, ifThen};
 ghost use Rattle.paper.specs.Record.{inRegion, asLocal};
-ghost use Rattle.paper.specs.Deck.{localAt, allWords, takeCell, newLocal, mention, known, nameFits, closes, cellFor, cellNamed, linkUp, fill};
+ghost use Rattle.paper.specs.Deck.{localAt, allWords, takeCell, newLocal, mention, known, nameFits, closes, cellFor, cellNamed, linkUp, fill, canStart};
 ghost use Rattle.steps.specs.Follows.{Always};
 ghost use Rattle.regions.specs.Table.{Laid};
 ghost use Rattle.records.specs.Symbols.{nameOf};
 ghost use Rattle.book.specs.declared.Notes.{Notes};
-ghost use Rattle.book.specs.Kept.{localsOf, noNotes, localNoted, structureNoted, RegionsAre, LocalsAre, NotedIn};
+ghost use Rattle.book.specs.Kept.{localsOf, noNotes, localNoted, structureNoted, held, bookOf, RegionsAre, LocalsAre, NotedIn};
 ghost use Rattle.book.specs.Verdict.{faultBy, toldFault};
 ghost use Rattle.book.specs.Booked.{Told, OnCells, OnNotes, OnTable, OnNames, OnAll};
 
@@ -23,6 +24,7 @@ mod names;
 
 pub use fields::data_tag;
 pub use fields::is_blank;
+pub use fields::is_missing;
 use names::mark;
 use names::named;
 use paper::Fault;
@@ -79,7 +81,8 @@ pub fn fault(go: u8) -> Fault
         6 => Fault::BadName,
         7 => Fault::NoWord,
         8 => Fault::NoCell,
-        _ => Fault::NotEnded,
+        9 => Fault::NotEnded,
+        _ => Fault::Hopeless,
     }
 }
 
@@ -361,4 +364,16 @@ pub fn fill(cells: &mut [u64], notes: Notes, c: u16, x: u64, waits: bool) -> Not
     k.words = true;
     k.waiting = pick(waits, c);
     k
+}
+
+// CR 5: of the start cell, which H1 names: a process is listed; another cell some record has as NAME.
+pub fn can_start(cells: &[u64], names: &[bool]) -> bool
+    ensures { λ r. ⌜ ((rs : List Region) (k : Notes) → r ≡ canStart (bookOf (held rs k (now (cells .entry)) (now (names .entry))))) ⌝ }
+{
+    let start = cells::symbol(cells::word_in(cells::peek(cells, limits::H1)));
+    let c = start.num;
+    if (limits::J0 <= c) & (c < limits::FIRST_DECK) {
+        return paper::is_listed(c - limits::J0);
+    }
+    named(names, c)
 }

@@ -2,12 +2,13 @@
 use Rattle.paper.proofs.Kit.{clash, ℕ, suc, _+_, _-_, _<_, _≤_, Bool, true, false, cond, _&&_, not, List, [], Option, none, some, _≡_, refl, ap, sym, _∙_}
 use Rattle.paper.proofs.Kit.{subst, arith, ℕ-discrete, ltb-true, ltb-false, eq-eqb, ne-eqb, ltb, eqb, length, take, drop, set, length-drop, take-all}
 use Rattle.paper.specs.declared.Fault.{Fault}
-use Rattle.paper.specs.declared.Fault.the-variants.{BadField, NotEnded}
+use Rattle.paper.specs.declared.Fault.the-variants.{BadField, NotEnded, Hopeless}
 use Rattle.paper.specs.declared.Field.{Field}
 use Rattle.paper.specs.declared.Field.the-variants.{Regional}
 use Rattle.paper.specs.Step.{Res, done, refused, _>>_, ret, refuse, refuseIf}
+use Rattle.paper.specs.Cell.{Region as PaperRegion}
 use Rattle.paper.specs.Record.{byteAt, sizeOf, fieldAt, recordAt}
-use Rattle.paper.specs.Deck.{Book, ending, closing, records, freshBook, loadOne}
+use Rattle.paper.specs.Deck.{Book, complete, broken, ending, canStart, closing, records, freshBook, loadOne}
 use Rattle.paper.proofs.RecordLaws.{OptionOk, is-some, record-ok}
 use Rattle.cells.specs.Pack.{AllFormed}
 use Rattle.steps.specs.Follows.{Follows, Always, left}
@@ -33,8 +34,8 @@ use Rattle.deck.proofs.TableLaws.{made-none}
 use Rattle.deck.proofs.ReadLaws.{Reached, at-start, ran-out, broke, last-one, next-one, closed, not-closed, whole, was-whole, not-written, is-done}
 use Rattle.deck.proofs.ReadLaws.{is-refused}
 
--- at the head of the loop, of n cells: no refusal yet; `last`: the start has come, and reading ends here
-pub record Stands (deck : List ℕ) (n : ℕ) (s : List ℕ) (m : List Bool) (r : Regions) (k : Notes) (go : ℕ) (last : Bool) (at : ℕ) : Type 0 where
+-- at the head of the loop, of n cells: no refusal yet; `last`: the start has come, in the record at `from`, and reading ends here
+pub record Stands (deck : List ℕ) (n : ℕ) (s : List ℕ) (m : List Bool) (r : Regions) (k : Notes) (go : ℕ) (last : Bool) (from at : ℕ) : Type 0 where
   pub made : Made r
   pub cells : length s ≡ n
   pub marks : length m ≡ n
@@ -42,11 +43,11 @@ pub record Stands (deck : List ℕ) (n : ℕ) (s : List ℕ) (m : List Bool) (r 
   pub so-far : go ≡ 0
   pub within : at ≤ length deck
   pub reached : last ≡ false → Reached n deck at (bookOf (held (regionsOf r) k s m))
-  pub over : last ≡ true → records n (suc (length deck)) 0 deck (freshBook n []) ≡ closing at (drop at deck) (bookOf (held (regionsOf r) k s m))
+  pub over : last ≡ true → records n (suc (length deck)) 0 deck (freshBook n []) ≡ closing from at (drop at deck) (bookOf (held (regionsOf r) k s m))
 
 pub stands-first : (deck : List ℕ) (n : ℕ) {s : List ℕ} {m : List Bool} {r : Regions} {k : Notes} → r ≡ noRegions → length s ≡ n
     → length m ≡ length s → bookOf (held (regionsOf r) k s m) ≡ freshBook n (regionsOf r) → AllFormed s
-    → Stands deck (length s) s m r k 0 false 0
+    → Stands deck (length s) s m r k 0 false 0 0
 stands-first deck n {s} {m} {r} {k} e ls lm b f =
     record {
       made = subst Made (sym e) made-none;
@@ -62,44 +63,60 @@ stands-first deck n {s} {m} {r} {k} e ls lm b f =
     empty : regionsOf r ≡ []
     empty = ap regionsOf e ∙ none-held
 
--- the last test, "no kind 5, or bytes after it", where b says that this is so
-abbrev completed : Option Fault → Bool → Option Fault
-completed none b = cond b (some NotEnded) none
-completed (some f) b = some f
+-- a test after the records: f where b holds, unless there was a fault before
+abbrev completed : Option Fault → Fault → Bool → Option Fault
+completed none f b = cond b (some f) none
+completed (some g) f b = some g
 
-tested : (t : Book) (b : Bool) (a r : Option Fault) → (left a >> refuseIf b NotEnded) t ≡ (left r >> ret (tt {0})) t → completed a b ≡ r
+tested : (t : Book) (f : Fault) (b : Bool) (a r : Option Fault) → (left a >> refuseIf b f) t ≡ (left r >> ret (tt {0})) t → completed a f b ≡ r
 unfolding left _>>_ ret refuse refuseIf
-tested t true none none p = clash cc
-tested t true none (some e) p = cc
-tested t false none none p = refl
-tested t false none (some e) p = clash cc
-tested t b (some d) none p = clash cc
-tested t b (some d) (some e) p = cc
+tested t f true none none p = clash cc
+tested t f true none (some e) p = cc
+tested t f false none none p = refl
+tested t f false none (some e) p = clash cc
+tested t f b (some d) none p = clash cc
+tested t f b (some d) (some e) p = cc
+
+-- the two tests, where `whole` says that the deck ends with its start, and b that a run can begin
+abbrev verdict : ℕ → Bool → Bool → Option Fault
+verdict go whole b = completed (completed (toldFault go) NotEnded (not whole)) Hopeless (not b)
+
+-- whether a run can begin, by the cells and the names
+abbrev pub Begins : List ℕ → List Bool → Bool → Type 0
+Begins s m b = (rs : List PaperRegion) (k : Notes) → b ≡ canStart (bookOf (held rs k s m))
 
 -- behind the loop: what the records come to, by the verdict
-pub record Leaves (deck : List ℕ) (n : ℕ) (s : List ℕ) (m : List Bool) (r : Regions) (go : ℕ) (last : Bool) (at : ℕ) : Type 0 where
-  pub is : ending n (records n (suc (length deck)) 0 deck (freshBook n []))
-      ≡ outcomeOf n (completed (toldFault go) (not (last && eqb at (length deck)))) at r s
+pub record Leaves (deck : List ℕ) (n : ℕ) (s : List ℕ) (m : List Bool) (r : Regions) (go : ℕ) (last : Bool) (from at : ℕ) : Type 0 where
+  pub is : (b : Bool) → Begins s m b → let whole = last && eqb at (length deck) in
+      ending n (records n (suc (length deck)) 0 deck (freshBook n [])) ≡ outcomeOf n (verdict go whole b) (cond whole from at) r s
   pub cells : length s ≡ n
   pub marks : length m ≡ n
   pub formed : AllFormed s
 
 -- the same in other words
-pub leaves-as : {deck : List ℕ} {n : ℕ} {s s′ : List ℕ} {m m′ : List Bool} {r : Regions} {go go′ : ℕ} {last : Bool} {at : ℕ} → s′ ≡ s → m′ ≡ m
-    → go′ ≡ go → Leaves deck n s m r go last at → Leaves deck n s′ m′ r go′ last at
-leaves-as {deck} {n} {s} {s′} {m} {m′} {r} {go} {go′} {last} {at} p q u w =
-    subst (λ (x : List ℕ × List Bool × ℕ). Leaves deck n (x .0) (x .1) r (x .2) last at) (λ i. (sym p i, sym q i, sym u i)) w
+pub leaves-as : {deck : List ℕ} {n : ℕ} {s s′ : List ℕ} {m m′ : List Bool} {r : Regions} {go go′ : ℕ} {last : Bool} {from from′ at : ℕ} → s′ ≡ s → m′ ≡ m
+    → go′ ≡ go → from′ ≡ from → Leaves deck n s m r go last from at → Leaves deck n s′ m′ r go′ last from′ at
+leaves-as {deck} {n} {s} {s′} {m} {m′} {r} {go} {go′} {last} {from} {from′} {at} p q u v w =
+    subst (λ (x : List ℕ × List Bool × ℕ × ℕ). Leaves deck n (x .0) (x .1) r (x .2) last (x .3) at) (λ i. (sym p i, sym q i, sym u i, sym v i)) w
 
-pub ends : (deck s₀ : List ℕ) {s : List ℕ} {m : List Bool} {n go : ℕ} {last : Bool} {o : ℕ} {r : Regions} (j : ℕ) → n ≡ length s₀
-    → Leaves deck n s m r go last o → Told Always (refuseIf (not (last && eqb o (length deck))) NotEnded) go j → r ≡ tableOf (regionsOf r)
+pub ends : (deck s₀ : List ℕ) {s : List ℕ} {m : List Bool} {n go : ℕ} {last : Bool} {from at : ℕ} {r : Regions} (i j o : ℕ) (b : Bool) → n ≡ length s₀
+    → Leaves deck n s m r go last from at → let whole = last && eqb at (length deck) in
+    Told Always (refuseIf (not whole) NotEnded) go i → Begins s m b → Told Always (refuseIf (not b) Hopeless) i j
+    → o ≡ cond whole from at → r ≡ tableOf (regionsOf r)
     → Ends deck s₀ s (record { go = j; at = o; regions = r })
-ends deck s₀ {s} {m} {n} {go} {last} {o} {r} j e w q t =
+ends deck s₀ {s} {m} {n} {go} {last} {from} {at} {r} i j o b e w p h q l t =
     record {
       is = subst (λ (x : ℕ). ending x (records x (suc (length deck)) 0 deck (freshBook x [])) ≡ outcomeOf x (toldFault j) o r s) e
-          (w .is ∙ ap (λ (i : Option Fault). outcomeOf n i o r s) (tested (freshBook n []) _ (toldFault go) (toldFault j) (q .is (freshBook n []) tt .is)));
+          (w .is b h ∙ (λ x. outcomeOf n (told x) (sym l x) r s));
       formed = w .formed;
       made = t;
     }
+  where
+    says : (f : Fault) (c : Bool) (x y : ℕ) → Told Always (refuseIf c f) x y → completed (toldFault x) f c ≡ toldFault y
+    says f c x y u = tested (freshBook n []) f c (toldFault x) (toldFault y) (u .is (freshBook n []) tt .is)
+
+    told : verdict go (last && eqb at (length deck)) b ≡ toldFault j
+    told = ap (λ (v : Option Fault). completed v Hopeless (not b)) (says NotEnded _ go i p) ∙ says Hopeless _ i j q
 
 -- the part of a deck from an offset on, as the code has it
 abbrev pub partAt : List ℕ → ℕ → List ℕ
@@ -138,31 +155,40 @@ at-hand at n last h = go (ltb at n) last refl refl h
     go true true e f g = clash cc
     go false l e f g = clash cc
 
-module _ {deck : List ℕ} {n : ℕ} {s : List ℕ} {m : List Bool} {r : Regions} {k : Notes} {go : ℕ} {last : Bool} {at : ℕ}
-    (w : Stands deck n s m r k go last at) where
+module _ {deck : List ℕ} {n : ℕ} {s : List ℕ} {m : List Bool} {r : Regions} {k : Notes} {go : ℕ} {last : Bool} {from at : ℕ}
+    (w : Stands deck n s m r k go last from at) where
   abbrev here : Book
   here = bookOf (held (regionsOf r) k s m)
 
-  abbrev Out : Option Fault → List ℕ → Type 0
-  Out j t = ending n (records n (suc (length deck)) 0 deck (freshBook n [])) ≡ outcomeOf n j at r t
+  abbrev Out : Option Fault → ℕ → List ℕ → Type 0
+  Out j o t = ending n (records n (suc (length deck)) 0 deck (freshBook n [])) ≡ outcomeOf n j o r t
 
   abbrev entire : Bool
   entire = last && eqb at (length deck)
 
   -- no record is left, or the start has come
-  pub leaves-end : (ltb at (length deck) && not last) ≡ false → Leaves deck n s m r go last at
-  leaves-end h = record { is = by-last last refl h; cells = w .cells; marks = w .marks; formed = w .formed }
+  pub leaves-end : (ltb at (length deck) && not last) ≡ false → Leaves deck n s m r go last from at
+  leaves-end h = record { is = λ b g. by-last b g last refl h; cells = w .cells; marks = w .marks; formed = w .formed }
     where
-      shown : (b : Bool) → entire ≡ b → Out (completed none (not b)) s → Out (completed (toldFault go) (not entire)) s
-      shown b e o = o ∙ (λ i. outcomeOf n (completed (sym (told-fine go (w .so-far)) i) (not (sym e i))) at r s)
+      -- by the test that the deck is whole, x
+      shown : (b x : Bool) → entire ≡ x → Out (completed (completed none NotEnded (not x)) Hopeless (not b)) (cond x from at) s
+          → Out (verdict go entire b) (cond entire from at) s
+      shown b x e o = o
+          ∙ (λ i. outcomeOf n (completed (completed (sym (told-fine go (w .so-far)) i) NotEnded (not (sym e i))) Hopeless (not b)) (cond (sym e i) from at) r s)
 
-      by-last : (l : Bool) → last ≡ l → (ltb at (length deck) && not l) ≡ false → Out (completed (toldFault go) (not entire)) s
-      by-last true e h = closes (ℕ-discrete at (length deck))
+      begun : (b : Bool) → ending n (cond b (complete here) (broken Hopeless from)) ≡ outcomeOf n (completed none Hopeless (not b)) from r s
+      begun true = refl
+      begun false = refl
+
+      by-last : (b : Bool) → Begins s m b → (l : Bool) → last ≡ l → (ltb at (length deck) && not l) ≡ false → Out (verdict go entire b) (cond entire from at) s
+      by-last b g true e h = closes (ℕ-discrete at (length deck))
         where
-          closes : Dec (at ≡ length deck) → Out (completed (toldFault go) (not entire)) s
-          closes (yes p) = shown true (rw (e, eq-eqb at (length deck) p)) (ap (ending n) (w .over e ∙ closed n deck at here (omega arith)))
-          closes (no p) = shown false (rw (e, ne-eqb at (length deck) p)) (ap (ending n) (w .over e ∙ not-closed n deck at here (omega (arith, w .within))))
-      by-last false e h = shown false (rw e) (ap (ending n) (ran-out n deck (w .reached e) (ltb-false _ _ (first (ltb at (length deck)) h))))
+          closes : Dec (at ≡ length deck) → Out (verdict go entire b) (cond entire from at) s
+          closes (yes p) = shown b true (rw (e, eq-eqb at (length deck) p))
+              (ap (ending n) (w .over e ∙ closed n deck from at here (omega arith) ∙ ap (λ (x : Bool). cond x (complete here) (broken Hopeless from)) (sym (g _ k)))
+              ∙ begun b)
+          closes (no p) = shown b false (rw (e, ne-eqb at (length deck) p)) (ap (ending n) (w .over e ∙ not-closed n deck from at here (omega (arith, w .within))))
+      by-last b g false e h = shown b false (rw e) (ap (ending n) (ran-out n deck (w .reached e) (ltb-false _ _ (first (ltb at (length deck)) h))))
         where
           first : (t : Bool) → (t && true) ≡ false → t ≡ false
           first true f = f
@@ -179,18 +205,24 @@ module _ {deck : List ℕ} {n : ℕ} {s : List ℕ} {m : List Bool} {r : Regions
     in-deck : (q : Res Book Fault Bool) → Comes q → loadOne n (byteAt (drop at deck) 0) (drop at deck) here ≡ q
     in-deck q p = subst (λ (y : List ℕ). loadOne n (byteAt y 0) y here ≡ q) part p
 
-    fails : (f : Fault) (t : List ℕ) → Comes (refused f) → Out (some f) t
+    fails : (f : Fault) (t : List ℕ) → Comes (refused f) → Out (some f) at t
     fails f t p = ap (ending n) (broke n deck (w .reached (left-over .1)) (left-over .0) (in-deck (refused f) p))
 
-    breaks : (x : ℕ) (b : Bool) (f : Fault) (t : List ℕ) → toldFault x ≡ some f → Comes (refused f) → Out (completed (toldFault x) b) t
-    breaks x b f t e p = fails f t p ∙ ap (λ (j : Option Fault). outcomeOf n (completed j b) at r t) (sym e)
+    -- its offset is that of the record, whatever the tests after it
+    breaks : (x : ℕ) (b y : Bool) (f : Fault) (t : List ℕ) → toldFault x ≡ some f → Comes (refused f) → Out (verdict x y b) (cond y at at) t
+    breaks x b y f t e p = fails f t p
+        ∙ (λ i. outcomeOf n (completed (completed (sym e i) NotEnded (not y)) Hopeless (not b)) (same y i) r t)
+      where
+        same : (z : Bool) → at ≡ cond z at at
+        same true = refl
+        same false = refl
 
     pub leaves-symbol : (i : ℕ) (x : Read) → i < symbolsAt rec → readOf x ≡ fieldAt rec (placeOf (byteAt rec 0) i) → x ≡ Nothing
-        → Leaves deck n s m r 4 last at
+        → Leaves deck n s m r 4 last at at
     leaves-symbol i x g e p =
         let v = has-symbol rec i g in
         record {
-          is = breaks 4 _ BadField s (told-fault 4 (omega arith)) (whole n (byteAt rec 0) rec here (v .0) (v .1)
+          is = λ b _. breaks 4 b entire BadField s (told-fault 4 (omega arith)) (whole n (byteAt rec 0) rec here (v .0) (v .1)
               ∙ not-written n (recordAt rec) here (bad-symbol rec (byteAt rec 0) i refl (v .2) (sym e ∙ ap readOf p)));
           cells = w .cells;
           marks = w .marks;
@@ -210,11 +242,11 @@ module _ {deck : List ℕ} {n : ℕ} {s : List ℕ} {m : List Bool} {r : Regions
           (λ (x : ℕ × Option Fault × Option Fault). Follows loading Always 0 (loadOne (x .0) (byteAt rec 0) rec) (held (regionsOf r) k s m) (x .1)
           (held (regionsOf (t .regions)) (t .notes) s′ m′) (x .2) (t .last)) (λ i. (w .cells i, told-fine 0 refl i, q i)) (d .did)
 
-      pub leaves-refused : (t .go ≡ 0 → ⊥) → length s′ ≡ length s → length m′ ≡ length m → Leaves deck n s′ m′ r (t .go) last at
+      pub leaves-refused : (t .go ≡ 0 → ⊥) → length s′ ≡ length s → length m′ ≡ length m → Leaves deck n s′ m′ r (t .go) last at at
       leaves-refused z ls lm =
           let f = told-fault (t .go) (omega (arith, z)) in
           record {
-            is = breaks (t .go) _ (faultBy (t .go)) s′ f (is-refused (faultBy (t .go)) (did (some (faultBy (t .go))) f));
+            is = λ b _. breaks (t .go) b entire (faultBy (t .go)) s′ f (is-refused (faultBy (t .go)) (did (some (faultBy (t .go))) f));
             cells = ls ∙ w .cells;
             marks = lm ∙ w .marks;
             formed = d .did .kept (w .formed);
@@ -240,7 +272,7 @@ module _ {deck : List ℕ} {n : ℕ} {s : List ℕ} {m : List Bool} {r : Regions
         pub further : at < at + size
         further = omega (arith, some-read)
 
-        pub goes-round : length s′ ≡ length s → length m′ ≡ length m → Stands deck n s′ m′ (t .regions) (t .notes) (t .go) (t .last) (at + size)
+        pub goes-round : length s′ ≡ length s → length m′ ≡ length m → Stands deck n s′ m′ (t .regions) (t .notes) (t .go) (t .last) at (at + size)
         goes-round ls lm =
             record {
               made = d .made;
@@ -252,5 +284,5 @@ module _ {deck : List ℕ} {n : ℕ} {s : List ℕ} {m : List Bool} {r : Regions
               reached = λ l. subst (λ (x : ℕ). Reached n deck (at + x) there) (sym size-is)
                   (next-one n deck (w .reached (left-over .1)) (left-over .0) (loaded false l) (λ y. some-read (size-is ∙ y)));
               over = λ l. last-one n deck (w .reached (left-over .1)) (left-over .0) (loaded true l)
-                  ∙ ap (λ (x : ℕ). closing (at + x) (drop (at + x) deck) there) (sym size-is);
+                  ∙ ap (λ (x : ℕ). closing at (at + x) (drop (at + x) deck) there) (sym size-is);
             }

@@ -1,11 +1,11 @@
 -- Reading a deck record by record: what one record comes to, and where the loop stands.
-use Rattle.paper.proofs.Kit.{clash, ℕ, zero, suc, _+_, _<_, _≤_, Bool, true, false, List, [], _∷_, Option, none, some, _≡_, refl, ap, sym, _∙_, arith, eq-eqb}
+use Rattle.paper.proofs.Kit.{clash, ℕ, zero, suc, _+_, _<_, _≤_, Bool, true, false, cond, List, [], _∷_, Option, none, some, _≡_, refl, ap, sym, _∙_, arith, eq-eqb}
 use Rattle.paper.proofs.Kit.{ne-eqb, lt-ltb, le-ltb, ltb-true, ltb-false, ltb, length, drop, length-drop, drop-of-length-le, drop-drop}
 use Rattle.paper.specs.declared.Fault.{Fault}
-use Rattle.paper.specs.declared.Fault.the-variants.{PastEnd, UnknownKind, BadField, NotEnded}
+use Rattle.paper.specs.declared.Fault.the-variants.{PastEnd, UnknownKind, BadField, NotEnded, Hopeless}
 use Rattle.paper.specs.Step.{Res, done, refused, _>>=_, _>>_, refuse, refuseIf, ret}
 use Rattle.paper.specs.Record.{byteAt, sizeOf, recordAt}
-use Rattle.paper.specs.Deck.{Book, Load, Ended, complete, broken, onRes, closing, records, freshBook, loadOne, wellFormed}
+use Rattle.paper.specs.Deck.{Book, Load, Ended, complete, broken, onRes, canStart, closing, records, freshBook, loadOne, wellFormed}
 use Rattle.steps.specs.Follows.{Follows, Always, left}
 use Rattle.steps.proofs.Join.{to-stop}
 use Rattle.steps.proofs.Sequence.{alike-here}
@@ -99,7 +99,7 @@ module _ (size : ℕ) (deck : List ℕ) where
   -- a record is at hand
   abbrev goes : ℕ → ℕ → List ℕ → Res Book Fault Bool → Ended
   goes left at r q = onRes q (λ f. broken f at) (λ last c. elim last [
-    | true ↦ closing (at + sizeOf (byteAt r 0)) (drop (sizeOf (byteAt r 0)) r) c
+    | true ↦ closing at (at + sizeOf (byteAt r 0)) (drop (sizeOf (byteAt r 0)) r) c
     | false ↦ records size left (at + sizeOf (byteAt r 0)) (drop (sizeOf (byteAt r 0)) r) c
   ])
 
@@ -132,12 +132,12 @@ module _ (size : ℕ) (deck : List ℕ) where
     broke e = turned ∙ ap (goes later at r) e
 
     pub last-one : {c : Book} → loadOne size (byteAt r 0) r b ≡ done true c
-        → outcome ≡ closing (at + sizeOf (byteAt r 0)) (drop (at + sizeOf (byteAt r 0)) deck) c
+        → outcome ≡ closing at (at + sizeOf (byteAt r 0)) (drop (at + sizeOf (byteAt r 0)) deck) c
     unfolding onRes
     last-one {c} e =
         turned
         ∙ ap (goes later at r) e
-        ∙ ap (λ (x : List ℕ). closing (at + sizeOf (byteAt r 0)) x c) (drop-drop (sizeOf (byteAt r 0)) at deck)
+        ∙ ap (λ (x : List ℕ). closing at (at + sizeOf (byteAt r 0)) x c) (drop-drop (sizeOf (byteAt r 0)) at deck)
 
     pub next-one : {c : Book} → loadOne size (byteAt r 0) r b ≡ done false c → (sizeOf (byteAt r 0) ≡ 0 → ⊥)
         → Reached size deck (at + sizeOf (byteAt r 0)) c
@@ -151,14 +151,16 @@ module _ (size : ℕ) (deck : List ℕ) where
               ∙ ap (λ (x : List ℕ). records size later (at + sizeOf (byteAt r 0)) x c) (drop-drop (sizeOf (byteAt r 0)) at deck);
         }
 
-  pub closed : (o : ℕ) (c : Book) → length deck ≤ o → closing o (drop o deck) c ≡ complete c
-  unfolding closing
-  closed o c h = rw (drop-of-length-le deck h)
+  -- the start was read at o, and reading stopped at e
+  module _ (o e : ℕ) (c : Book) where
+    pub closed : length deck ≤ e → closing o e (drop e deck) c ≡ cond (canStart c) (complete c) (broken Hopeless o)
+    unfolding closing
+    closed h = rw (drop-of-length-le deck h)
 
-  pub not-closed : (o : ℕ) (c : Book) → o < length deck → closing o (drop o deck) c ≡ broken NotEnded o
-  unfolding closing
-  not-closed o c h = go (drop o deck) (rw (length-drop o deck) (omega arith))
-    where
-      go : (r : List ℕ) → 0 < length r → closing o r c ≡ broken NotEnded o
-      go [] k = absurd (omega arith)
-      go (y ∷ ys) k = refl
+    pub not-closed : e < length deck → closing o e (drop e deck) c ≡ broken NotEnded e
+    unfolding closing
+    not-closed h = go (drop e deck) (rw (length-drop e deck) (omega arith))
+      where
+        go : (r : List ℕ) → 0 < length r → closing o e r c ≡ broken NotEnded e
+        go [] k = absurd (omega arith)
+        go (y ∷ ys) k = refl

@@ -2,15 +2,15 @@
 use Rattle.paper.proofs.Kit.{clash, _||_, ℕ, Bool, true, false, List, [], _∷_, _++_, _≡_, refl, ap, sym, _∙_, subst, Option, none, some, set}
 use Rattle.paper.specs.Cell.{Region, Cell, word, mkWord, H, J}
 use Rattle.paper.specs.declared.Fault.{Fault}
-use Rattle.paper.specs.Step.{_>>_, refuseIf, becomes}
-use Rattle.paper.specs.Deck.{Load, withCells, freshBook}
+use Rattle.paper.specs.Step.{Res, done, refused, _>>=_, _>>_, ret, refuseIf, becomes}
+use Rattle.paper.specs.Deck.{Book, Load, withCells, freshBook}
 use Rattle.cells.specs.Pack.{Packs, AllFormed}
 use Rattle.steps.specs.Follows.{Follows, Always}
-use Rattle.steps.proofs.Sequence.{then, test, undone, judged-yes, judged-no, give-as}
+use Rattle.steps.proofs.Sequence.{bind, then, test, alike-here, undone, judged-yes, judged-no, give, give-as}
 use Rattle.cells.proofs.Store.{unpacked-set, formed-set}
 use Rattle.book.specs.declared.Notes.{Notes}
 use Rattle.book.specs.Kept.{Held, held, bookOf}
-use Rattle.book.specs.Booked.{loading, Booked}
+use Rattle.book.specs.Booked.{loading, Booked, Told}
 use Rattle.book.proofs.Lines.{changes}
 use Rattle.deck.specs.declared.Placed.{Placed}
 use Rattle.deck.specs.Load.{ordinary, Made, PlacesIn}
@@ -50,6 +50,27 @@ pub placed : {M : Load (Unit {0})} {t : Regions} {k : Notes} {s s′ : List ℕ}
     → Booked M (held (regionsOf t) k s m) 0 (held (regionsOf (r .regions)) (r .notes) s′ m′) (r .go) tt → PlacesIn (ordinary M) t k s m s′ m′ r
 unfolding ordinary
 placed l h d = record { did = then d (give-as (sym l)); made = h }
+
+-- and one test more, N, after it
+after-it : (M N : Load (Unit {0})) (v : Bool) (b : Book) → ((M >> N) >> ret v) b ≡ ((M >> ret v) >>= (λ l. N >> ret l)) b
+unfolding _>>_ _>>=_ ret
+after-it M N v b = go (M b)
+  where
+    go : (q : Res Book Fault (Unit {0}))
+        → _≡_ {A = Res Book Fault Bool} (elim (elim q as (λ _. Res Book Fault (Unit {0})) [ done a t ↦ N t | refused f ↦ refused f ]) as (λ _. Res Book Fault Bool) [
+          | done a t ↦ done v t
+          | refused f ↦ refused f
+        ]) (elim (elim q as (λ _. Res Book Fault Bool) [ done a t ↦ done v t | refused f ↦ refused f ]) as (λ _. Res Book Fault Bool) [
+          | done l t ↦ elim (N t) as (λ _. Res Book Fault Bool) [ done a u ↦ done l u | refused f ↦ refused f ]
+          | refused f ↦ refused f
+        ])
+    go (done a t) = refl
+    go (refused f) = refl
+
+pub tested-too : (M : Load (Unit {0})) {N : Load (Unit {0})} {t : Regions} {k : Notes} {s s′ : List ℕ} {m m′ : List Bool} {r : Placed} (go : ℕ) → PlacesIn (ordinary M) t k s m s′ m′ r
+    → Told Always N (r .go) go → PlacesIn (ordinary (M >> N)) t k s m s′ m′ (record { go = go; last = r .last; notes = r .notes; regions = r .regions })
+unfolding ordinary
+tested-too M {N} go d q = record { did = alike-here (λ _ _. after-it M N false _) (bind (λ l. N >> ret l) (d .did) (test q give)); made = d .made }
 
 -- a record by the case of x, which is known to be y
 pub placed-as : {A : Type 0} (M : A → Load Bool) {x y : A} {t : Regions} {k : Notes} {s s′ : List ℕ} {m m′ : List Bool} {r : Placed} → x ≡ y

@@ -1,10 +1,10 @@
 // The loader: document 01, "The deck".
 ghost use mathlib.Core.Path.{_≡_};
-ghost use mathlib.Core.Bool.{true};
+ghost use mathlib.Core.Bool.{true, cond};
 ghost use lib.ListN.{length};
 ghost use Rattle.paper.specs.Region.{isLetter};
 ghost use Rattle.paper.specs.Record.{byteAt};
-ghost use Rattle.paper.specs.Deck.{loadWord, loadInteger, loadRegion, loadStart, loadOne};
+ghost use Rattle.paper.specs.Deck.{loadWord, loadRoutine, loadInteger, loadRegion, loadStart, loadOne};
 ghost use Rattle.cells.specs.Layout.{valueOf};
 ghost use Rattle.regions.specs.Table.{Laid};
 ghost use Rattle.records.specs.Symbols.{nameOf, recordOf, parsedOf, symbolsAt, Written};
@@ -84,6 +84,25 @@ fn load_word(
         notes: book::fill(cells, notes, n.c, x, book::is_blank(link)),
         regions: regions,
     }
+}
+
+// Kind 2. CR 5: "any routine word with P 0 and Q 0 whose SYMB is a process we don't have".
+fn load_routine(
+    cells: &mut [u64],
+    names: &mut [bool],
+    regions: Regions,
+    notes: Notes,
+    name: Name,
+    w: Entry,
+) -> Placed
+    requires { ⌜ Made regions ⌝ }
+    ensures { λ r. ⌜ Places (ordinary (loadRoutine (nameOf name) (w .p) (w .q) (w .symb) (w .link))) regions notes cells names r ⌝ }
+{
+    let symb = w.symb;
+    let hopeless = (w.p == 0) & (w.q == 0) & book::is_missing(symb);
+    let mut t = load_word(cells, names, regions, notes, name, w);
+    t.go = book::refuse_if(t.go, hopeless, 11);
+    t
 }
 
 // Kind 4.
@@ -179,7 +198,7 @@ fn load_record(
                 symb: symb,
                 link: link,
             };
-            load_word(cells, names, regions, notes, name, w)
+            load_routine(cells, names, regions, notes, name, w)
         }
         Record::Datum(name, symb, link) => {
             let w = Entry {
@@ -245,7 +264,14 @@ fn load_one(
     )
 }
 
-// One record after another, its symbols first; left at the first refusal, with its offset. Then 9: "no kind 5, or bytes after it".
+// The offset of a refusal: that of its record; of a deck that is not whole (9), where reading stopped.
+fn offset(whole: bool, from: usize, at: usize) -> usize
+    ensures { λ r. ⌜ r ≡ cond whole from at ⌝ }
+{
+    if whole { from } else { at }
+}
+
+// One record after another, its symbols first; left at the first refusal. Then 9, "no kind 5, or bytes after it", and 11, of the start.
 fn load_records(deck: &[u8], cells: &mut [u64], names: &mut [bool]) -> Ended
     requires { ⌜ Sized (now cells) (now names) ⌝ }
     ensures { λ r. ⌜ Ends (now (deck .entry)) (now (cells .entry)) (now (cells .exit)) r ⌝ }
@@ -254,8 +280,10 @@ fn load_records(deck: &[u8], cells: &mut [u64], names: &mut [bool]) -> Ended
     let mut notes = begin(cells, names, regions);
     let mut go = 0;
     let mut last = false;
+    let mut from = 0;
     let mut at = 0;
     'deck: while (at < deck.len()) & !last {
+        from = at;
         let r = &deck[at..];
         let kind = r[0];
         let mut symbols = [Field::Blank; 3];
@@ -279,14 +307,17 @@ fn load_records(deck: &[u8], cells: &mut [u64], names: &mut [bool]) -> Ended
         notes = t.notes;
         last = t.last;
     }
+    let whole = last & (at == deck.len());
+    let go = book::refuse_if(go, !whole, 9);
     Ended {
-        go: book::refuse_if(go, !(last & (at == deck.len())), 9),
-        at: at,
+        go: book::refuse_if(go, !book::can_start(cells, names), 11),
+        at: offset(whole, from, at),
         regions: regions,
     }
 }
 
-// Loads a deck into the cells. Where N is out of range nothing is written (1); a refused deck leaves all cells zero and no region (2 to 9).
+// Loads a deck into the cells. Where N is out of range nothing is written (1); a refused deck leaves all cells zero and no region (2 to 9,
+// 11).
 pub fn load(deck: &[u8], cells: &mut [u64]) -> Loaded
     ensures { λ r. ⌜ Loads (now (deck .entry)) (now (cells .entry)) (now (cells .exit)) r ⌝ }
 {

@@ -3,7 +3,7 @@
 use Rattle.paper.proofs.Kit.{ℕ, zero, suc, _≤_, _≡_, refl, sym, ap, subst, _∙_, Bool, true, false, cond, List, [], _∷_, arith, ltb, ltb-true, length}
 use Rattle.paper.proofs.Kit.{replicate, length-map, pos}
 use Rattle.paper.specs.declared.Fault.{Fault}
-use Rattle.paper.specs.declared.Fault.the-variants.{PastEnd, UnknownKind, BadField, BadRegion, BadName, NoWord, NoCell, NotEnded}
+use Rattle.paper.specs.declared.Fault.the-variants.{PastEnd, UnknownKind, BadField, BadRegion, BadName, NoWord, NoCell, NotEnded, Hopeless}
 use Rattle.paper.specs.declared.LoadAnswer.{LoadAnswer}
 use Rattle.paper.specs.declared.LoadAnswer.the-variants.{Loaded as AnswerLoaded, BadSize, Broken}
 use Rattle.paper.specs.Limits.{largestBudget}
@@ -13,6 +13,7 @@ use Rattle.paper.specs.Sound.{sound}
 use Rattle.paper.specs.Deck.{Ended, complete, broken, LoadOutcome, ending, records, freshBook, load}
 use Rattle.paper.proofs.SoundTest.{sound-from}
 use Rattle.paper.proofs.Demand1.{Runnable, FreeListed, free-listed}
+use Rattle.paper.proofs.DeckLaws.{Starts}
 use Rattle.paper.proofs.LoadLaws.{ready, Leaves, load-leaves}
 use Rattle.cells.specs.Pack.{packOf, packed}
 use Rattle.cells.specs.Bridge.{unpacked}
@@ -46,7 +47,7 @@ packed-zeros : (n : ℕ) → packed (replicate n (word zeros)) ≡ replicate n 0
 packed-zeros zero = refl
 packed-zeros (suc n) = ap (λ s. 0 ∷ s) (packed-zeros n)
 
--- a fault is answered 2 to 9
+-- a fault is answered 2 to 9 or 11
 fault-from : (f : Fault) → 2 ≤ faultNumber f
 fault-from PastEnd = omega arith
 fault-from UnknownKind = omega arith
@@ -56,6 +57,7 @@ fault-from BadName = omega arith
 fault-from NoWord = omega arith
 fault-from NoCell = omega arith
 fault-from NotEnded = omega arith
+fault-from Hopeless = omega arith
 
 module _ (deck : List ℕ) (before : List Cell) where
   -- the definition, by the test of N
@@ -68,12 +70,14 @@ module _ (deck : List ℕ) (before : List Cell) where
   unfolding load
   out-of-range e = rw (e, load)
 
--- what a load that is answered 0 leaves: numbers and a table that the test of a run passes, they are the definition's, and H3 counts 0
+-- what a load that is answered 0 leaves: numbers and a table that the test of a run passes, they are the definition's, H3 counts 0, and H1 names no
+-- process that is not listed
 pub record Fit (r : Loaded) (s′ : List ℕ) (l : LoadOutcome) : Type 0 where
   pub size : sizeFits (length s′) ≡ true
   pub passes : storeSound (r .regions) s′ ≡ true
   pub is : (room : ℕ) → stateWith (r .regions) s′ [] room ≡ ready l room
   pub counts : cellAt (unpacked s′) (H 3) ≡ term (integer (pos 0))
+  pub starts : Starts (unpacked s′)
 
 -- the three ways of a load
 data Way (s s′ : List ℕ) (r : Loaded) (l : LoadOutcome) : Type 0 where
@@ -105,11 +109,12 @@ module _ (deck s : List ℕ) {s′ : List ℕ} {r : Loaded} (allowed : Loads dec
       q ∙ ap (λ (x : LoadOutcome). packed (x .cells)) p
 
   fits : (l : LoadOutcome) → outcome ≡ l → s′ ≡ packed (l .cells) → ((room : ℕ) → Runnable (ready l room))
-      → cellAt (l .cells) (H 3) ≡ term (integer (pos 0)) → Fit r s′ outcome
-  fits l e n k z =
+      → cellAt (l .cells) (H 3) ≡ term (integer (pos 0)) → Starts (l .cells) → Fit r s′ outcome
+  fits l e n k z b =
       let t = sound-from (ready l 0) (k 0 .size) (k 0 .test) in
       let each = sound-fits (t .frame) (ready l 0) (t .isSound) in
-      let cs : unpacked s′ ≡ outcome .cells = ap unpacked n ∙ unpacked-packed (l .cells) each ∙ ap (λ (x : LoadOutcome). x .cells) (sym e) in
+      let left : unpacked s′ ≡ l .cells = ap unpacked n ∙ unpacked-packed (l .cells) each in
+      let cs : unpacked s′ ≡ outcome .cells = left ∙ ap (λ (x : LoadOutcome). x .cells) (sym e) in
       let is : (room : ℕ) → stateWith (r .regions) s′ [] room ≡ ready outcome room =
       (λ room. λ i. record { cells = cs i; regions = allowed .regions i; lines = []; room = room }) in
       let few : r .regions .n ≤ 23 = subst (λ (x : Regions). x .n ≤ 23) (sym (allowed .table)) (table-few noRegions (outcome .regions) (omega arith)) in
@@ -119,7 +124,8 @@ module _ (deck s : List ℕ) {s′ : List ℕ} {r : Loaded} (allowed : Loads dec
             in-form (r .regions) s′ [] 0 few (rw n (packed-formed (l .cells) each))
             ∙ ap sound (is 0) ∙ ap (λ (x : LoadOutcome). sound (ready x 0)) e ∙ k 0 .test;
         is = is;
-        counts = ap (λ cs. cellAt cs (H 3)) (ap unpacked n ∙ unpacked-packed (l .cells) each) ∙ z;
+        counts = ap (λ cs. cellAt cs (H 3)) left ∙ z;
+        starts = subst Starts (sym left) b;
       }
 
   way : Way s s′ r outcome
@@ -127,8 +133,8 @@ module _ (deck s : List ℕ) {s′ : List ℕ} {r : Loaded} (allowed : Loads dec
     where
       byEnd : sizeFits (length s) ≡ true → (x : Ended) → outcome ≡ ending (length (unpacked s)) x → Way s s′ r outcome
       byEnd e (complete b) p =
-          let (runs, counts) = subst (λ (l : LoadOutcome). Leaves (unpacked s) l (l .answer)) p (load-leaves deck (unpacked s)) in
-          loaded (answer-is p) (fits (ending (length (unpacked s)) (complete b)) p (numbers-are e p) runs counts)
+          let (runs, counts, starts) = subst (λ (l : LoadOutcome). Leaves (unpacked s) l (l .answer)) p (load-leaves deck (unpacked s)) in
+          loaded (answer-is p) (fits (ending (length (unpacked s)) (complete b)) p (numbers-are e p) runs counts starts)
       byEnd e (broken f o) p =
           refused f o (answer-is p)
           (numbers-are e p ∙ packed-zeros (length (unpacked s)) ∙ ap (λ n. replicate n 0) (unpacked-length s))
@@ -172,7 +178,11 @@ module _ (deck s : List ℕ) {s′ : List ℕ} {r : Loaded} (allowed : Loads dec
   pub loaded-counts : loadNumber (r .answer) ≡ 0 → cellAt (unpacked s′) (H 3) ≡ term (integer (pos 0))
   loaded-counts h = loaded-fits h .counts
 
-  -- "Load answers 2 to 9 leave all cells zero (words of zeros) and the region table empty."
+  -- answered 0: if H1 names a process, it is listed (CR 5)
+  pub loaded-starts : loadNumber (r .answer) ≡ 0 → Starts (unpacked s′)
+  loaded-starts h = loaded-fits h .starts
+
+  -- "Load answers 2 to 9 leave all cells zero (words of zeros) and the region table empty."; CR 5: 11 too
   pub refused-leaves-zeros : 2 ≤ loadNumber (r .answer) → (s′ ≡ replicate (length s) 0) × (r .regions ≡ noRegions)
   refused-leaves-zeros h = go way
     where

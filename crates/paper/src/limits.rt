@@ -8,6 +8,9 @@ pub const LARGEST_N: usize = 16384;
 // "Deck regions follow from 221."
 pub const FIRST_DECK: u16 = 221;
 
+// "J0..J199": so many.
+pub const MANY_PROCESSES: usize = 200;
+
 // "number to 9,999"; "counts 1 to 9,999".
 pub const LARGEST_NUMBER: u16 = 9999;
 

@@ -25,7 +25,10 @@ returns-7 : tie.Need-returns-7
 returns-7 c = told-number (c .before .args .go) 8 (omega arith) (c .match .keys7)
 
 returns-8 : tie.Need-returns-8
-returns-8 c = told-other (c .before .args .go) (omega arith) (c .match .rest)
+returns-8 c = told-number (c .before .args .go) 9 (omega arith) (c .match .keys8)
+
+returns-9 : tie.Need-returns-9
+returns-9 c = told-other (c .before .args .go) (omega arith) (c .match .rest)
 
 pub fault-spec : {M : Type 1} → statement M
-fault-spec = tie.close (tie.spec returns returns-2 returns-3 returns-4 returns-5 returns-6 returns-7 returns-8)
+fault-spec = tie.close (tie.spec returns returns-2 returns-3 returns-4 returns-5 returns-6 returns-7 returns-8 returns-9)

@@ -27,7 +27,7 @@ returns-2 c =
     let c₁ = c .before .before .before .before in
     let c₂ = c₁ .before .before .before .before in
     let c₃ = c₂ .before .before .before .before in
-    placed-as (λ y. oneRecord (length (c₃ .args .cells .now)) (recordOf y)) (c₂ .x2 .given .1) (c₁ .load-word .ensures)
+    placed-as (λ y. oneRecord (length (c₃ .args .cells .now)) (recordOf y)) (c₂ .x2 .given .1) (c₁ .load-routine .ensures)
 
 returns-3 : tie.Need-returns-3
 unfolding ordinary oneRecord loadRecord
@@ -38,7 +38,7 @@ returns-3 c =
     let c₄ = c₃ .before .before .before .before in
     placed-as (λ y. oneRecord (length (c₄ .args .cells .now)) (recordOf y)) (c₃ .x3 .given .1)
     (placed-as (λ q. ordinary (loadWord (nameOf (c₃ .x3 .given .0 .0)) 0 q (c₃ .x3 .given .0 .1 .0) (c₃ .x3 .given .0 .1 .1 .0)))
-    (sym (c₂ .data-tag .ensures)) (c₁ .load-word2 .ensures))
+    (sym (c₂ .data-tag .ensures)) (c₁ .load-word .ensures))
 
 returns-4 : tie.Need-returns-4
 unfolding ordinary oneRecord loadRecord

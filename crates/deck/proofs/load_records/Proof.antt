@@ -7,17 +7,17 @@ use Rattle.deck.proofs.load_records.Statement.{statement}
 use Rattle.deck.proofs.load_records.Tie as tie
 
 abbrev Inv-loop : tie.InvT-loop
-Inv-loop deck cells names regions notes go₀ last at r kind symbols₀ n i₀ go symbols i = (i ≤ n) × (length symbols ≡ 3) × Written kind r symbols i
+Inv-loop deck cells names regions notes go₀ last from at r kind symbols₀ n i₀ go symbols i = (i ≤ n) × (length symbols ≡ 3) × Written kind r symbols i
 
 abbrev μ-loop : tie.MeasureT-loop
-μ-loop deck cells names regions notes go₀ last at r kind symbols₀ n i₀ go symbols i = n - i
+μ-loop deck cells names regions notes go₀ last from at r kind symbols₀ n i₀ go symbols i = n - i
 
 abbrev Inv-deck : tie.InvT-deck
-Inv-deck deck cells₀ names₀ regions₀ notes₀ go₀ last₀ at₀ cells names regions notes go last at =
-    Stands deck (length cells₀) cells names regions notes go last at
+Inv-deck deck cells₀ names₀ regions₀ notes₀ go₀ last₀ from₀ at₀ cells names regions notes go last from at =
+    Stands deck (length cells₀) cells names regions notes go last from at
 
 abbrev μ-deck : tie.MeasureT-deck
-μ-deck deck cells₀ names₀ regions₀ notes₀ go₀ last₀ at₀ cells names regions notes go last at = length deck - at
+μ-deck deck cells₀ names₀ regions₀ notes₀ go₀ last₀ from₀ at₀ cells names regions notes go last from at = length deck - at
 
 deck-holds : tie.Need-deck-holds Inv-loop μ-loop Inv-deck μ-deck
 deck-holds c =
@@ -118,36 +118,41 @@ leaves : (c : tie.Left-deck Inv-loop μ-loop Inv-deck μ-deck)
     let d = c .before in
     let b = d .before .before .before .before .before in
     let a = b .before .before .before .before .before .before .before in
-    Leaves (a .args .deck .now) (length (b .begin .last .0)) (x .cells) (x .names) (d .deck .regions) (x .go) (d .deck .last) (d .deck .at)
+    Leaves (a .args .deck .now) (length (b .begin .last .0)) (x .cells) (x .names) (d .deck .regions) (x .go) (d .deck .last) (x .from) (d .deck .at)
 leaves c =
     let d = c .before in
     let a = d .before .before .before .before .before .before .before .before .before .before .before .before in
     let v = d .deck .inv in
     let part = to-end (a .args .deck .now) (d .deck .at) in
-    ⊎-elim (λ w. leaves-as (w .1) (w .2) (w .3) (leaves-end v (w .0 .left)))
+    ⊎-elim (λ w. leaves-as (w .1) (w .2) (w .3) (w .4) (leaves-end v (w .0 .left)))
     (⊎-elim
-    (λ w. leaves-as (w .9) (w .10) (w .11)
+    (λ w. leaves-as (w .9) (w .10) (w .11) (w .12)
     (leaves-symbol v (w .0 .taken) _ part (w .4 .i) _ (omega (arith, w .5 .taken, w .3 .ensures)) (w .6 .ensures) (w .8 .given .1)))
-    (λ w. leaves-as (w .14) (w .15) (w .16)
+    (λ w. leaves-as (w .14) (w .15) (w .16) (w .17)
     (leaves-refused v (w .0 .taken) _ part (w .8 .ensures) (w .13 .taken) (w .8 .kept .0) (w .8 .kept .1 .0)))) (c .deck-test .came)
 
 same-length : tie.Need-same-length Inv-loop μ-loop Inv-deck μ-deck
 same-length c =
-    let c₁ = c .before .before .before .before .before .before .before in
-    leaves (c .before) .cells ∙ c₁ .begin .kept .0
+    let c₁ = c .before .before .before .before .before .before in
+    let c₂ = c₁ .before .before .before .before .before .before in
+    leaves c₁ .cells ∙ c₂ .begin .kept .0
 
 same-length-2 : tie.Need-same-length-2 Inv-loop μ-loop Inv-deck μ-deck
 same-length-2 c =
-    let c₁ = c .before .before .before .before .before .before .before in
-    let c₂ = c₁ .before .before .before .before .before .before .before in
-    leaves (c .before) .marks ∙ c₁ .begin .kept .0 ∙ sym (c₂ .pre .marks)
+    let c₁ = c .before .before .before .before .before .before in
+    let c₂ = c₁ .before .before .before .before .before .before in
+    let c₃ = c₂ .before .before .before .before .before .before .before in
+    leaves c₁ .marks ∙ c₂ .begin .kept .0 ∙ sym (c₃ .pre .marks)
 
 returns : tie.Need-returns Inv-loop μ-loop Inv-deck μ-deck
 returns c =
-    let c₁ = c .before .before in
-    let c₂ = c₁ .before .before .before .before .before in
-    let c₃ = c₂ .before .before .before .before .before .before .before in
-    ends (c₃ .args .deck .now) (c₃ .args .cells .now) _ (c₂ .begin .kept .0) (leaves (c .before)) (c .refuse-if .ensures) (c₁ .deck .inv .made .made)
+    let c₁ = c .before .before .before .before .before in
+    let c₂ = c₁ .before in
+    let c₃ = c₂ .before in
+    let c₄ = c₃ .before .before .before .before .before in
+    let c₅ = c₄ .before .before .before .before .before .before .before in
+    ends (c₅ .args .deck .now) (c₅ .args .cells .now) _ _ _ _ (c₄ .begin .kept .0) (leaves c₂) (c₁ .refuse-if .ensures)
+    (c .before .before .can-start .ensures) (c .before .refuse-if2 .ensures) (c .offset .ensures) (c₃ .deck .inv .made .made)
 
 pub load-records-spec : {M : Type 1} → statement M
 load-records-spec =
@@ -179,6 +184,9 @@ load-records-spec =
     add-at
     deck-less
     deck-again
+    (λ c κs. search needs)
+    (λ c κs. search needs)
+    (λ c κs. search needs)
     (λ c κs. search needs)
     same-length
     same-length-2
