@@ -1,6 +1,7 @@
 // What a symbol of a deck tells by its class.
 ghost use mathlib.Core.Path.{_≡_};
 ghost use Rattle.paper.specs.Deck.{dataTag, isBlank, isMissing};
+use crate::listed::is_listed;
 use paper::Field;
 use paper::Symbol;
 
@@ -32,7 +33,7 @@ pub fn is_missing(f: Field) -> bool
     ensures { λ r. ⌜ r ≡ isMissing f ⌝ }
 {
     match f {
-        Field::Regional(b, n) => (b == b'J') & !paper::is_listed(n),
+        Field::Regional(b, n) => (b == b'J') & !is_listed(n),
         Field::Local(_) => false,
         Field::Zero => false,
         Field::Blank => false,

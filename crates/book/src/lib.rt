@@ -20,11 +20,13 @@ ghost use Rattle.book.specs.Verdict.{faultBy, toldFault};
 ghost use Rattle.book.specs.Booked.{Told, OnCells, OnNotes, OnTable, OnNames, OnAll};
 
 mod fields;
+mod listed;
 mod names;
 
 pub use fields::data_tag;
 pub use fields::is_blank;
 pub use fields::is_missing;
+use listed::is_listed;
 use names::mark;
 use names::named;
 use paper::Fault;
@@ -373,7 +375,7 @@ pub fn can_start(cells: &[u64], names: &[bool]) -> bool
     let start = cells::symbol(cells::word_in(cells::peek(cells, limits::H1)));
     let c = start.num;
     if (limits::J0 <= c) & (c < limits::FIRST_DECK) {
-        return paper::is_listed(c - limits::J0);
+        return is_listed(c - limits::J0);
     }
     named(names, c)
 }

@@ -5,7 +5,11 @@ ghost use Rattle.paper.specs.Cell.{wordIn, termIn, freeLink};
 ghost use Rattle.cells.specs.Layout.{unpackOf, wordOf, termOf};
 ghost use Rattle.cells.specs.Pack.{Packs, cellOf};
 ghost use Rattle.cells.specs.Bridge.{cellIn};
+
+mod tally;
+
 use paper::Symbol;
+pub use tally::one_more;
 
 // The units of the fields above LINK.
 pub const SYMB: u64 = 0x10000;

@@ -316,8 +316,7 @@ fn load_records(deck: &[u8], cells: &mut [u64], names: &mut [bool]) -> Ended
     }
 }
 
-// Loads a deck into the cells. Where N is out of range nothing is written (1); a refused deck leaves all cells zero and no region (2 to 9,
-// 11).
+// Loads a deck into the cells. Where N is out of range nothing is written (1); any other refusal leaves all cells zero and no region.
 pub fn load(deck: &[u8], cells: &mut [u64]) -> Loaded
     ensures { λ r. ⌜ Loads (now (deck .entry)) (now (cells .entry)) (now (cells .exit)) r ⌝ }
 {

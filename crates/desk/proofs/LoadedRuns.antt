@@ -1,7 +1,7 @@
 -- Demand 1, carried to the loader's call: of every outcome that the contract of `deck::load` allows. Each statement can be read without its
 -- proof.
 use Rattle.paper.proofs.Kit.{ℕ, zero, suc, _≤_, _≡_, refl, sym, ap, subst, _∙_, Bool, true, false, cond, List, [], _∷_, arith, ltb, ltb-true, length}
-use Rattle.paper.proofs.Kit.{replicate, length-map, pos}
+use Rattle.paper.proofs.Kit.{replicate, length-map, pos, some}
 use Rattle.paper.specs.declared.Fault.{Fault}
 use Rattle.paper.specs.declared.Fault.the-variants.{PastEnd, UnknownKind, BadField, BadRegion, BadName, NoWord, NoCell, NotEnded, Hopeless}
 use Rattle.paper.specs.declared.LoadAnswer.{LoadAnswer}
@@ -10,11 +10,17 @@ use Rattle.paper.specs.Limits.{largestBudget}
 use Rattle.paper.specs.Answer.{loadNumber, faultNumber}
 use Rattle.paper.specs.Cell.{integer, Cell, Region, word, term, cellAt, zeros, sizeFits, H}
 use Rattle.paper.specs.Sound.{sound}
+use Rattle.paper.specs.Region.{letterJ}
+use Rattle.paper.specs.declared.Field.{Field}
+use Rattle.paper.specs.declared.Field.the-variants.{Regional}
+use Rattle.paper.specs.Record.{Name, routine, recordAt}
+use Rattle.paper.specs.Process.{isListed}
 use Rattle.paper.specs.Deck.{Ended, complete, broken, LoadOutcome, ending, records, freshBook, load}
 use Rattle.paper.proofs.SoundTest.{sound-from}
 use Rattle.paper.proofs.Demand1.{Runnable, FreeListed, free-listed}
 use Rattle.paper.proofs.DeckLaws.{Starts}
 use Rattle.paper.proofs.LoadLaws.{ready, Leaves, load-leaves}
+use Rattle.paper.proofs.HopelessLaws.{Begins, loaded-lists}
 use Rattle.cells.specs.Pack.{packOf, packed}
 use Rattle.cells.specs.Bridge.{unpacked}
 use Rattle.cells.proofs.Store.{unpacked-length}
@@ -181,6 +187,19 @@ module _ (deck s : List ℕ) {s′ : List ℕ} {r : Loaded} (allowed : Loads dec
   -- answered 0: if H1 names a process, it is listed (CR 5)
   pub loaded-starts : loadNumber (r .answer) ≡ 0 → Starts (unpacked s′)
   loaded-starts h = loaded-fits h .starts
+
+  loaded-as : loadNumber (r .answer) ≡ 0 → r .answer ≡ AnswerLoaded
+  loaded-as h = go way
+    where
+      go : Way s s′ r outcome → r .answer ≡ AnswerLoaded
+      go (loaded a f) = a
+      go (refused f o a n t) = absurd (omega (arith, h, number-is a, fault-from f))
+      go (small a n t) = absurd (omega (arith, h, number-is a))
+
+  -- answered 0: a routine word with P 0 and Q 0, wherever in the deck its record b begins, calls no process that is not listed (CR 5)
+  pub loaded-calls : loadNumber (r .answer) ≡ 0 → {b : List ℕ} → Begins deck b → (name : Name) (link : Field) (n : ℕ)
+      → recordAt b ≡ some (routine name 0 0 (Regional letterJ n) link) → isListed n ≡ true
+  loaded-calls h begins name link n = loaded-lists name link n deck (unpacked s) (sym (allowed .answer) ∙ loaded-as h) begins
 
   -- "Load answers 2 to 9 leave all cells zero (words of zeros) and the region table empty."; CR 5: 11 too
   pub refused-leaves-zeros : 2 ≤ loadNumber (r .answer) → (s′ ≡ replicate (length s) 0) × (r .regions ≡ noRegions)

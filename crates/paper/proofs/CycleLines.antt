@@ -1,4 +1,5 @@
--- A cycle prints nothing or a text with its line feed, at most `longestLine` bytes, and is refused by 30 only where fewer are left.
+-- A cycle prints nothing or a text with its line feed, at most `longestLine` bytes, and is refused by 30 only where fewer are left; by 28 only for a process
+-- that is not listed.
 use Rattle.paper.proofs.Kit.{_≡_, refl, Bool, true, false, List, [], ℕ, zero, suc, _<_, arith, length}
 use Rattle.paper.specs.Limits.{longestLine}
 use Rattle.paper.specs.Step.{Res, done, refused, _>>=_, _>>_, ret, ifThen}
@@ -18,8 +19,8 @@ use Rattle.paper.proofs.Demand1.{Runnable}
 use Rattle.paper.proofs.SoundTest.{sound-from}
 use Rattle.paper.proofs.QuietLaws.{Same, Still, Quiet, q-ret, q-check, q-refuse, q-bind, q-seq, q-if, q-peek, q-put, q-own, q-touch, q-notOwn, q-nameOf, q-readAt}
 use Rattle.paper.proofs.QuietLaws.{q-preserve, q-restore, q-store, q-ownPreserve, q-ownRestore, q-ownStore, q-push, q-pop}
-use Rattle.paper.proofs.PrintLaws.{Printed, other, no-30, unprinted, printed-from, printed-to}
-use Rattle.paper.proofs.ListedLaws.{Scarce, Leaves, perform-leaves}
+use Rattle.paper.proofs.PrintLaws.{Printed, unprinted, printed-from, printed-to}
+use Rattle.paper.proofs.ListedLaws.{Means, neither, Leaves, perform-leaves}
 
 -- what does not print, in a cycle
 q-count : Quiet count
@@ -68,25 +69,25 @@ unfolding designate symbolInThat
 q-designate q c =
     choose-both Quiet _ _ _ _ (q-nameOf c) (choose-both Quiet _ _ _ _ (q-symbolIn c) (choose-last Quiet _ (q-bind (q-readAt c) λ w. q-symbolIn _)))
 
--- at most so many bytes are printed; and where it is refused by 30, there was no room for the longest line
+-- at most so many bytes are printed; and where it is refused by 30, there was no room for the longest line, where by 28, the process is not listed
 abbrev pub Few : {A : Type 0} → State → Res State Refusal A → Type 0
 Few s (done a t) = Printed longestLine s t
-Few s (refused e) = Scarce s e
+Few s (refused e) = Means s e
 
 record Bounded {A : Type 0} (I : State → Type 0) (m : Act A) : Type 0 where
   at : (s : State) → I s → Few s (m s)
 
 still-few : {A : Type 0} (s : State) (r : Res State Refusal A) → Still s r → Few s r
 still-few s (done a t) p = unprinted p
-still-few s (refused e) p = no-30 {s = s} (other p)
+still-few s (refused e) p = neither p
 
 few-from : {A : Type 0} {s t : State} → Same s t → (r : Res State Refusal A) → Few t r → Few s r
 few-from p (done a u) q = printed-from p q
-few-from p (refused e) q = λ f. omega (arith, p .room, q f)
+few-from p (refused e) q = record { at-28 = q .at-28; at-30 = λ f. omega (arith, p .room, q .at-30 f) }
 
 few-to : {A : Type 0} {s t : State} → Printed longestLine s t → (r : Res State Refusal A) → Still t r → Few s r
 few-to p (done a u) q = printed-to p q
-few-to {s = s} p (refused e) q = no-30 {s = s} (other q)
+few-to p (refused e) q = neither q
 
 module _ {I : State → Type 0} where
   quiet : {A : Type 0} {m : Act A} → Quiet m → Bounded I m
@@ -101,7 +102,7 @@ module _ {I : State → Type 0} where
       go : (s : State) (r : Res State Refusal A) → Still s r → After r (λ a t. J a t × P a)
           → Few {A = B} s (elim r as (λ _. Res State Refusal B) [ done a t ↦ f a t | refused e ↦ refused e ])
       go s (done a t) p j = few-from p (f a t) (k a (j .1) .at t (j .0))
-      go s (refused e) p j = no-30 {s = s} (other p)
+      go s (refused e) p j = neither p
 
   quiet-seq : {A B : Type 0} {P : A → Type 0} {J : A → State → Type 0} {m : Act A} {n : Act B} → Quiet m → Safe I P J m
       → ((a : A) → P a → Bounded (J a) n) → Bounded I (m >> n)
@@ -111,7 +112,7 @@ module _ {I : State → Type 0} where
       go : (s : State) (r : Res State Refusal A) → Still s r → After r (λ a t. J a t × P a)
           → Few {A = B} s (elim r as (λ _. Res State Refusal B) [ done a t ↦ n t | refused e ↦ refused e ])
       go s (done a t) p j = few-from p (n t) (k a (j .1) .at t (j .0))
-      go s (refused e) p j = no-30 {s = s} (other p)
+      go s (refused e) p j = neither p
 
   few-bind : {A B : Type 0} {m : Act A} {f : A → Act B} → Bounded I m → ((a : A) → Quiet (f a)) → Bounded I (m >>= f)
   unfolding _>>=_

@@ -9,10 +9,10 @@ use Rattle.paper.specs.Act.{Act, Refusal, NotListed, NoRoom}
 use Rattle.paper.specs.Process.{J152, J153, goesOn, Next, then, executing, Entry, thenOn, one, ten, listed, covers, isListed, perform}
 use Rattle.paper.proofs.SoundStore.{Frame, Sound, and-true}
 use Rattle.paper.proofs.PerformLaws.{Among, here, later, unlisted, is-listed}
-use Rattle.paper.proofs.QuietLaws.{Same, Still, Quiet, q-ret, q-seq, q-pop}
+use Rattle.paper.proofs.QuietLaws.{Other, Same, Still, Quiet, q-ret, q-seq, q-pop}
 use Rattle.paper.proofs.QuietProcesses.{q-setH5, q-J1, q-J2, q-J5, q-J6, q-J9, q-J2n, q-J3n, q-J4n, q-J5n, q-J60, q-J63, q-J64, q-J68, q-J71, q-J72}
 use Rattle.paper.proofs.QuietProcesses.{q-J74, q-J90, q-combines, q-compares, q-compares0, q-J120, q-changes, q-J124, q-testsTag, q-J131, q-retags}
-use Rattle.paper.proofs.PrintLaws.{Printed, other, Line, unprinted, no-28, no-30, symbolLine, J152-prints, symbol-bound, J153-prints}
+use Rattle.paper.proofs.PrintLaws.{Printed, Line, unprinted, no-28, no-30, symbolLine, J152-prints, symbol-bound, J153-prints}
 
 -- a process that prints: at most so many bytes by the state it begins in, and at most `longestLine` in a sound store
 record Prints (m : Act (Unit {0})) : Type 0 where
@@ -120,26 +120,37 @@ only-printers n s e = go (ℕ-discrete n 152) (ℕ-discrete n 153) (isListed n) 
     go (no p) (no q) true l = absurd (rw e at (others-quiet n l (⊎-elim p q) .at s))
     go (no p) (no q) false l = absurd (let h : refused NoRoom ≡ refused (NotListed (J n)) = sym e ∙ unlisted n s l in clash cc)
 
--- in a sound store any process prints `longestLine` bytes at most, none where something is to be executed, and 30 is for want of them
-abbrev pub Scarce : State → Refusal → Type 0
-Scarce s e = e ≡ NoRoom → s .room < longestLine
+-- c is the cell of a process that is not listed
+pub record Unlisted (c : ℕ) : Type 0 where
+  pub number : ℕ
+  pub cell : c ≡ J number
+  pub unlisted : isListed number ≡ false
 
+-- what 28 and 30 mean where something is refused by them: a process is not listed; there is no room for the longest line
+pub record Means (s : State) (e : Refusal) : Type 0 where
+  pub at-28 : (c : ℕ) → e ≡ NotListed c → Unlisted c
+  pub at-30 : e ≡ NoRoom → s .room < longestLine
+
+pub neither : {s : State} {e : Refusal} → Other e → Means s e
+neither h = record { at-28 = λ c p. absurd (subst Other p h); at-30 = λ p. absurd (subst Other p h) }
+
+-- in a sound store any process prints `longestLine` bytes at most, and none where something is to be executed
 abbrev pub Leaves : State → Res State Refusal Next → Type 0
 Leaves s (done (then d) t) = Printed longestLine s t
 Leaves s (done (executing x) t) = Same s t
-Leaves s (refused e) = Scarce s e
+Leaves s (refused e) = Means s e
 
 still-leaves : (s : State) (r : Res State Refusal Next) → Still s r → Leaves s r
 still-leaves s (done (then d) t) p = unprinted p
 still-leaves s (done (executing x) t) p = p
-still-leaves s (refused e) p = no-30 {s = s} (other p)
+still-leaves s (refused e) p = neither p
 
 line-leaves : (k : ℕ) (s : State) → k ≤ longestLine → (r : Res State Refusal (Unit {0})) → Line k s r → Leaves s (elim r as (λ _. Res State Refusal Next) [
   | done a t ↦ done (then goesOn) t
   | refused e ↦ refused e
 ])
 line-leaves k s h (done a t) p = record { line = p .line; ends = p .ends; lines = p .lines; short = omega (arith, p .short); room = p .room }
-line-leaves k s h (refused e) p = λ q. omega (arith, no-30 p q)
+line-leaves k s h (refused e) p = record { at-28 = λ c q. absurd (no-28 p c q); at-30 = λ q. omega (arith, no-30 p q) }
 
 kind-leaves : {e : Entry} → Kind e → (k : ℕ) (F : Frame) (s : State) → Sound F s → Leaves s (e .does k s)
 unfolding thenOn ret _>>_
@@ -152,4 +163,4 @@ perform-leaves F n s i = go (isListed n) refl
   where
     go : (b : Bool) → isListed n ≡ b → Leaves s (perform n s)
     go true p = let d = is-listed n p in rw (d .does s) (kind-leaves (kind-in all-kinds (d .inList)) (n - d .entry .from) F s i)
-    go false p = rw (unlisted n s p) (λ q. clash cc)
+    go false p = rw (unlisted n s p) (record { at-28 = λ c q. record { number = n; cell = cc; unlisted = p }; at-30 = λ q. clash cc })

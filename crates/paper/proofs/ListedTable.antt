@@ -2,7 +2,7 @@
 use Rattle.paper.proofs.Kit.{_≡_, refl, sym, Bool, true, false, cond, _&&_, not, List, [], _∷_, ℕ, zero, suc, _<_, _≤_, _/_, _%_, arith, ℕ-discrete, eqb, ltb}
 use Rattle.paper.proofs.Kit.{and-false, getD, lt-leb, ltb-true}
 use Rattle.paper.specs.Limits.{manyProcesses}
-use Rattle.paper.specs.Process.{Entry, one, ten, control, listed, isListedIn, isListed}
+use Rattle.paper.specs.Process.{Entry, listed, isListedIn, isListed}
 use Rattle.paper.proofs.SoundStore.{and-true}
 
 abbrev pub inTable : List (List ℕ) → ℕ → Bool

@@ -1,6 +1,6 @@
 -- The lines of a run have at most `longestLine` bytes for each of its cycles; and a run that has this much room for each cycle of its budget is not
 -- refused by 30. What it prints is whole lines. All this holds of any state: one that is not run does no cycle.
-use Rattle.paper.proofs.Kit.{clash, List, [], _∷_, _++_, append-assoc, append-nil, _≡_, refl, ap, subst, _∙_, Bool, true, false, cond, _&&_, ℕ, zero}
+use Rattle.paper.proofs.Kit.{clash, List, [], _∷_, _++_, append-assoc, append-nil, _≡_, _≢_, refl, ap, subst, _∙_, Bool, true, false, cond, _&&_, ℕ, zero}
 use Rattle.paper.proofs.Kit.{suc, _+_, _*_, _≤_, leb, leb-true, arith, length}
 use Rattle.paper.specs.Limits.{largestBudget, longestLine}
 use Rattle.paper.specs.Step.{Res, done, refused}
@@ -15,6 +15,7 @@ use Rattle.paper.proofs.Safe.{After}
 use Rattle.paper.proofs.Demand1.{Runnable, Left, every-cycle, every-run}
 use Rattle.paper.specs.Print.{feedByte}
 use Rattle.paper.proofs.PrintLaws.{Ended, nothing, fed}
+use Rattle.paper.proofs.ListedLaws.{Means}
 use Rattle.paper.proofs.CycleLines.{Few, cycle-line}
 
 -- the answers of a run that did nothing
@@ -31,10 +32,10 @@ ended-both {xs} h nothing = rw (append-nil xs) h
 ended-both {xs} h (fed ys) = subst Ended (append-assoc xs ys (feedByte ∷ [])) (fed (xs ++ ys))
 
 -- what a cycle of a run leaves of its room and its lines
-record Onward (s t : State) : Type 0 where
-  runnable : Runnable t
-  room : s .room ≤ t .room + longestLine
-  ends : Ended (s .lines) → Ended (t .lines)
+pub record Onward (s t : State) : Type 0 where
+  pub runnable : Runnable t
+  pub room : s .room ≤ t .room + longestLine
+  pub ends : Ended (s .lines) → Ended (t .lines)
 
 module _ (s : State) (r : Runnable s) where
   alone-runs : Runnable (alone s)
@@ -58,31 +59,39 @@ module _ (s : State) (r : Runnable s) where
             ends = λ h. ended-both h (rw (p .lines) (p .ends));
           })
 
-  stops-not : longestLine ≤ s .room → turn s ≡ stops NoRoom → ⊥
+  -- what refuses a cycle of a run
+  stops-as : (e : Refusal) → turn s ≡ stops e → Means s e
   unfolding turn isFinished afterCycle
-  stops-not h e = go (isFinished s) (cycle (alone s)) (cycle-line (alone s) alone-runs) e
+  stops-as e h = go (isFinished s) (cycle (alone s)) (cycle-line (alone s) alone-runs) h
     where
       go : (b : Bool) (q : Res State Refusal (Unit {0})) → Few (alone s) q
-          → _≡_ {A = Turn} (elim b as (λ _. Turn) [ true ↦ finishes | false ↦ afterCycle s q ]) (stops NoRoom) → ⊥
-      go true q p e = clash cc
-      go false (done a u) p e = clash cc
-      go false (refused x) p e = let same : x ≡ NoRoom = cc in absurd (omega (arith, p same))
+          → _≡_ {A = Turn} (elim b as (λ _. Turn) [ true ↦ finishes | false ↦ afterCycle s q ]) (stops e) → Means s e
+      go true q p h = clash cc
+      go false (done a u) p h = clash cc
+      go false (refused x) p h = let same : x ≡ e = cc in subst (Means s) same (record { at-28 = p .at-28; at-30 = p .at-30 })
 
-room-for-all : (budget n : ℕ) (s : State) → Runnable s → budget * longestLine ≤ s .room → runFrom budget n s .answer ≡ Refused NoRoom → ⊥
+-- what is so of a refused cycle, where I holds with the budget left before each cycle, is so of a run that is refused
+pub refused-as : (I : ℕ → State → Type 0) (Q : Refusal → Type 0) → ((k : ℕ) (s t : State) → Onward s t → I (suc k) s → I k t)
+    → ((k : ℕ) (s : State) (e : Refusal) → Means s e → I (suc k) s → Q e)
+    → (budget n : ℕ) (s : State) → Runnable s → I budget s → (e : Refusal) → runFrom budget n s .answer ≡ Refused e → Q e
 unfolding runFrom onTurn
-room-for-all zero n s r h e = go (isFinished s) e
+refused-as I Q f g zero n s r i e h = go (isFinished s) h
   where
-    go : (b : Bool) → cond b Finished BudgetSpent ≡ Refused NoRoom → ⊥
-    go true e = clash cc
-    go false e = clash cc
-room-for-all (suc budget) n s r h e = go (turn s) refl (λ t k b. room-for-all budget (suc n) t k b) e
+    go : (b : Bool) → cond b Finished BudgetSpent ≡ Refused e → Q e
+    go true h = clash cc
+    go false h = clash cc
+refused-as I Q f g (suc budget) n s r i e h = go (turn s) refl (λ t k j. refused-as I Q f g budget (suc n) t k j e) h
   where
-    go : (t : Turn) → turn s ≡ t
-        → ((u : State) → Runnable u → budget * longestLine ≤ u .room → runFrom budget (suc n) u .answer ≡ Refused NoRoom → ⊥)
-        → onTurn {A = Outcome} t (outcome Finished n s) (λ x. outcome (Refused x) n s) (λ u. runFrom budget (suc n) u) .answer ≡ Refused NoRoom → ⊥
-    go finishes q ih e = clash cc
-    go (stops x) q ih e = let same : x ≡ NoRoom = cc in stops-not s r (omega arith) (q ∙ ap stops same)
-    go (continues t) q ih e = let k = goes-on s r t q in ih t (k .runnable) (omega (arith, k .room)) e
+    go : (t : Turn) → turn s ≡ t → ((u : State) → Runnable u → I budget u → runFrom budget (suc n) u .answer ≡ Refused e → Q e)
+        → onTurn {A = Outcome} t (outcome Finished n s) (λ x. outcome (Refused x) n s) (λ u. runFrom budget (suc n) u) .answer ≡ Refused e → Q e
+    go finishes q ih h = clash cc
+    go (stops x) q ih h = let same : x ≡ e = cc in g budget s e (stops-as s r e (q ∙ ap stops same)) i
+    go (continues t) q ih h = let k = goes-on s r t q in ih t (k .runnable) (f budget s t k i) h
+
+room-for-all : (budget : ℕ) (s : State) → Runnable s → budget * longestLine ≤ s .room → (e : Refusal) → runFrom budget 0 s .answer ≡ Refused e → e ≢ NoRoom
+room-for-all budget s =
+    refused-as (λ k u. k * longestLine ≤ u .room) (λ e. e ≢ NoRoom) (λ k u t o i. omega (arith, o .room))
+    (λ k u e m i h. omega (arith, m .at-30 h)) budget 0 s
 
 -- what each cycle keeps, a run keeps
 along : (P : ℕ → State → Type 0) → ((n : ℕ) (s t : State) → Onward s t → P n s → P (suc n) t)
@@ -118,7 +127,7 @@ by-cycles P budget s h k = go (sizeFits (length (s .cells))) refl (sound s) refl
 
 pub enough-room : (budget : ℕ) (s : State) → budget * longestLine ≤ s .room → run budget s .answer ≡ Refused NoRoom → ⊥
 enough-room budget s h =
-    by-cycles (λ o. o .answer ≡ Refused NoRoom → ⊥) budget s (λ r _. room-for-all budget 0 s r h) λ a u e. subst Unrun e u
+    by-cycles (λ o. o .answer ≡ Refused NoRoom → ⊥) budget s (λ r _ e. room-for-all budget s r h NoRoom e refl) λ a u e. subst Unrun e u
 
 pub lines-short : (budget : ℕ) (s : State) → let o = run budget s in length (o .state .lines) ≤ length (s .lines) + o .cycles * longestLine
 lines-short budget s =

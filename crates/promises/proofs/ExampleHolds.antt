@@ -1,15 +1,20 @@
 -- The promises are not had emptily: stores for which their hypotheses hold, by computation.
-use Rattle.paper.proofs.Kit.{ℕ, _≡_, refl, [], arith, pos}
+use Rattle.paper.proofs.Kit.{ℕ, _≡_, refl, [], none, arith, pos}
 use Rattle.paper.specs.declared.RunAnswer.the-variants.{Finished, BudgetSpent}
-use Rattle.paper.specs.Cell.{regional, J}
+use Rattle.paper.specs.Cell.{State, regional, J}
 use Rattle.paper.specs.Act.{done}
 use Rattle.paper.specs.Process.{J72, J74}
 use Rattle.paper.specs.Cycle.{cycle}
-use Rattle.paper.specs.Run.{runFrom}
+use Rattle.paper.specs.Run.{runFrom, run}
+use Rattle.paper.specs.Bench.{fiveCells}
+use Rattle.paper.proofs.SoundTest.{sound-from}
 use Rattle.paper.specs.Plain.{preserveH0}
 use Rattle.paper.proofs.Demand1.{Runnable}
 use Rattle.paper.proofs.Demand3.{inH0}
+use Rattle.regions.specs.Table.{regionsOf}
 use Rattle.sound.specs.Store.{stateWith}
+use Rattle.sound.specs.Asked.{unfit}
+use Rattle.sound.proofs.FitLaws.{sound-fits, unpacked-packed}
 use Rattle.machine.specs.Numbers.{runOn}
 use Rattle.cycle.specs.Order.{orderIn, fetch}
 use Rattle.plain.specs.Numbers.{plainOn}
@@ -17,7 +22,7 @@ use Rattle.plain.specs.Walks.{walkOn}
 use Rattle.plain.proofs.GivesBack.{GaveBack}
 use Rattle.promises.specs.Free.{freeNumbers}
 use Rattle.promises.specs.Cycles.{tallyOf}
-use Rattle.promises.specs.Example.{table, fresh, five, erasing, exampleOpen}
+use Rattle.promises.specs.Example.{begun, table, fresh, five, erasing, exampleOpen}
 use Rattle.promises.proofs.Demand3Calls.{copy-and-erase}
 use Rattle.promises.proofs.InCycle.{Executes}
 
@@ -36,10 +41,37 @@ five-back =
     let (finishes, met, free) = met-five in
     copy-and-erase table five refl finishes (omega (arith, met, free)) refl refl refl
 
+-- the numbers of the first deck are those of the state that its load leaves
+abbrev at-first : State
+at-first = begun (fiveCells 22)
+
+runnable : Runnable at-first
+unfolding exampleOpen
+runnable = record { size = refl; test = refl }
+
+regions-are : regionsOf table ≡ at-first .regions
+unfolding exampleOpen
+regions-are = refl
+
+begins : stateWith table fresh [] 0 ≡ at-first
+unfolding fresh begun
+begins =
+    let t = sound-from at-first (runnable .size) (runnable .test) in
+    let cells-are = unpacked-packed (at-first .cells) (sound-fits (t .frame) at-first (t .isSound)) in
+    λ i. record { cells = cells-are i; regions = regions-are i; lines = []; room = 0 }
+
+tested : unfit table fresh ≡ none
+unfolding exampleOpen
+tested = refl
+
+went : runOn table 1 fresh [] .cells ≡ five
+unfolding runOn run five
+went = rw (tested, runOn) (rw begins (rw (runnable .size, runnable .test, run)))
+
 -- a run that does a cycle: `every-cycle` and `run-ends` speak of it
 pub one-cycle : let n = runOn table 1 fresh [] in (n .answer ≡ BudgetSpent) × (n .cycles ≡ 1) × (n .cells ≡ five)
 unfolding exampleOpen runOn
-one-cycle = (refl, refl, refl)
+one-cycle = (refl, refl, went)
 
 -- what H3 counts before it and after it: `Tally.run-counts` speaks of it
 pub counts-one : (tallyOf fresh ≡ pos 0) × (tallyOf five ≡ pos 1)

@@ -1,16 +1,18 @@
--- What a run prints, of every outcome that the contract of machine::run allows: whole lines, and how much by the longest of them (CR 3). Each
--- statement can be read without its proof.
+-- What a run prints, of every outcome that the contract of machine::run allows: whole lines, and how much by the longest of them (CR 3); and what its
+-- answer 28 says (CR 5). Each statement can be read without its proof.
 use Rattle.paper.proofs.Kit.{clash, ℕ, _*_, _≤_, _≡_, refl, ap, subst, sym, _∙_, Bool, true, false, List, [], Option, none, some, arith, length, take, drop}
 use Rattle.paper.proofs.Kit.{take-append-seam}
 use Rattle.paper.specs.declared.Refusal.{Refusal}
-use Rattle.paper.specs.declared.Refusal.the-variants.{NoRoom}
+use Rattle.paper.specs.declared.Refusal.the-variants.{NotListed, NoRoom}
 use Rattle.paper.specs.declared.RunAnswer.{RunAnswer}
 use Rattle.paper.specs.declared.RunAnswer.the-variants.{BadSize, NotSound, Refused}
 use Rattle.paper.specs.Limits.{longestLine}
 use Rattle.paper.specs.Cell.{sizeFits}
 use Rattle.paper.specs.Run.{run}
 use Rattle.paper.proofs.PrintLaws.{Ended, nothing}
+use Rattle.paper.proofs.ListedLaws.{Unlisted}
 use Rattle.paper.proofs.RunLines.{enough-room, lines-short, lines-whole}
+use Rattle.paper.proofs.HopelessLaws.{run-28 as run-28-by}
 use Rattle.regions.specs.declared.Regions.{Regions}
 use Rattle.sound.specs.Store.{stateWith, storeSound}
 use Rattle.sound.specs.Asked.{unfit}
@@ -62,3 +64,9 @@ module _ (r : Regions) (budget : ℕ) (s out : List ℕ) where
     run-has-room h =
         let of : Numbers → Type 0 = λ n. n .answer ≡ Refused NoRoom → ⊥ in
         subst of (sym e) (by-run of (enough-room budget (stateWith r s [] (length out)) h) λ a p q. not-asked r s NoRoom (p ∙ ap some q))
+
+    -- answered 28, its value is the cell of a process that is not listed
+    pub run-28 : (c : ℕ) → ran .answer ≡ Refused (NotListed c) → Unlisted c
+    run-28 c =
+        let of : Numbers → Type 0 = λ n. n .answer ≡ Refused (NotListed c) → Unlisted c in
+        subst of (sym e) (by-run of (run-28-by budget (stateWith r s [] (length out)) c) λ a p q. absurd (not-asked r s (NotListed c) (p ∙ ap some q)))

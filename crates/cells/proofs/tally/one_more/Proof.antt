@@ -1,9 +1,9 @@
-use Rattle.cycle.proofs.CountLaws.{next-number, next-bits, last-bits, packs-next}
+use Rattle.cells.proofs.CountLaws.{next-number, next-bits, last-bits, packs-next}
 use Rattle.paper.proofs.Kit.{arith, needs, ap, _∙_, sym, add-one, ltb-true, _+_, _-_, _*_, _^_}
 use Rattle.paper.specs.Cycle.{oneMore}
 use Rattle.cells.specs.Layout.{termOf}
-use Rattle.cycle.proofs.tally.one_more.Statement.{statement}
-use Rattle.cycle.proofs.tally.one_more.Tie as tie
+use Rattle.cells.proofs.tally.one_more.Statement.{statement}
+use Rattle.cells.proofs.tally.one_more.Tie as tie
 
 add-result : tie.Need-add-result
 add-result c = let l = ltb-true (c .before .before .args .x) (2 * 2 ^ 48 + (2 ^ 32 - 1)) (c .if2 .taken) in omega arith
