@@ -70,7 +70,7 @@ unfoldable pub unused : List Region → ℕ → ℕ → ℕ
 unused rs b zero = 0
 unused rs b (suc k) = cond (letterTaken (layout rs) b) 0 1 + unused rs (b + 1) k
 
--- a table that the loader made: its regions end within 16,384 cells, and each letter that it holds is one less to come
+-- a table that the loader made: its regions end within the largest store, and each letter that it holds is one less to come
 pub record Made (r : Regions) : Type 0 where
   pub laid : Laid r
   pub room : length (regionsOf r) + unused (regionsOf r) 65 26 ≤ 23

@@ -34,11 +34,17 @@ fn next_free(size: usize, c: usize) -> u16
     0
 }
 
-// Cell c before any word, of `size` cells of which the reserved ones end at `end`.
+// Cell c before any word, of `size` cells of which the reserved ones end at `end`. Most are past the machine's own, and asked for first.
 fn fresh_cell(size: usize, end: usize, c: usize) -> u64
     requires { ⌜ (size ≤ largestN) × (c ≤ largestN) ⌝ }
     ensures { λ r. ⌜ Packs r (freshCell size end c) ⌝ }
 {
+    if FIRST_DECK <= c {
+        if c < end {
+            return cells::EMPTY;
+        }
+        return cells::of_free(next_free(size, c + 1));
+    }
     if c == 0 {
         return cells::of_fields(0, 0, 0, 0);
     }
@@ -52,13 +58,7 @@ fn fresh_cell(size: usize, end: usize, c: usize) -> u64
     if c < J0 {
         return cells::EMPTY;
     }
-    if c < FIRST_DECK {
-        return cells::of_process();
-    }
-    if c < end {
-        return cells::EMPTY;
-    }
-    cells::of_free(next_free(size, c + 1))
+    cells::of_process()
 }
 
 // "The free list starts ascending", "Undefined regional cells are empty words", "H0, W and the rest of H are empty"; H3 counts from 0.

@@ -15,8 +15,11 @@ use sound::Asked;
 use structures::Marks;
 use structures::Order;
 
-// A cycle logs at most three writes a cell and 41 more. The log takes two numbers a write, one to count them, and four for the cells it saves.
-const LOG: usize = 2 * (3 * limits::LARGEST_N + 41) + 5;
+// A cycle logs at most two writes a cell and 41 more. The log takes two numbers a write, one to count them, and four for the cells it saves.
+const LOG: usize = 2 * (2 * limits::LARGEST_N + 41) + 5;
+
+// In the width of the log.
+const UNREAD: u64 = undo::UNREAD as u64;
 
 // The answer of a run, the cycles done, and how many bytes its lines have.
 pub struct Ran {
@@ -87,8 +90,8 @@ pub fn run(cells: &mut [u64], regions: Regions, budget: u32, out: &mut [u8]) -> 
                 return came_to(RunAnswer::NotSound, 0, 0);
             }
             let table = regions.table();
-            let mut log = [0u64; LOG];
-            let mut order = [0u16; limits::LARGEST_N];
+            let mut log = [UNREAD; LOG];
+            let mut order = [undo::UNREAD; limits::LARGEST_N];
             let mut marks = [0u16; structures::MANY_NUMBERS];
             cycles(cells, &mut log, &mut order, &mut marks, &table, budget, out)
         }

@@ -1,9 +1,9 @@
-// The numbers of document 01 and of CR 3 that bound something, as specs/Limits has them, and the cells that the machine names.
+// The numbers of document 01, of CR 3 and CR 11 that bound something, as specs/Limits has them, and the cells that the machine names.
 
-// "N from 256 to 16,384."
+// "N from 256"; CR 11: "Raise N to 65,535".
 pub const SMALLEST_N: usize = 256;
 
-pub const LARGEST_N: usize = 16384;
+pub const LARGEST_N: usize = 65535;
 
 // "Deck regions follow from 221."
 pub const FIRST_DECK: u16 = 221;
@@ -14,8 +14,8 @@ pub const MANY_PROCESSES: usize = 200;
 // "number to 9,999"; "counts 1 to 9,999".
 pub const LARGEST_NUMBER: u16 = 9999;
 
-// "local, 0..63": so many.
-pub const MANY_LOCALS: usize = 64;
+// CR 11: "locals to 0..999": so many.
+pub const MANY_LOCALS: usize = 1000;
 
 // "P is 0..7"; "Q is 0..2", of a deck's words.
 pub const LARGEST_P: u8 = 7;

@@ -21,8 +21,11 @@ use sound::Asked;
 use structures::Marks;
 use structures::Order;
 
-// A copy makes two writes a cell and two more; the log takes two numbers a write, one to count them and four for the cells it saves.
-const LOG: usize = 2 * (2 * limits::LARGEST_N + 2) + 5;
+// A copy makes a write a cell and three more; the log takes two numbers a write, one to count them and four for the cells it saves.
+const LOG: usize = 2 * (limits::LARGEST_N + 3) + 5;
+
+// In the width of the log.
+const UNREAD: u64 = undo::UNREAD as u64;
 
 // What was refused is undone.
 fn settle(cells: &mut [u64], log: &[u64], go: u32) -> RunAnswer
@@ -51,8 +54,8 @@ fn act(
     what: Action,
     top: u16,
 ) -> u32
-    requires { ⌜ Clean (now cells) (now order) (now marks) × Suits (now log) (2 * length (now cells) + 2) top ⌝ }
-    ensures { λ r. ⌜ Did (Top top) (2 * length (now (cells .entry)) + 2) (actionOf what) cells log 0 r tt ⌝ }
+    requires { ⌜ Clean (now cells) (now order) (now marks) × Suits (now log) (length (now cells) + 3) top ⌝ }
+    ensures { λ r. ⌜ Did (Top top) (length (now (cells .entry)) + 3) (actionOf what) cells log 0 r tt ⌝ }
 {
     match what {
         Action::Preserve => acts::preserve(cells, log, 0, limits::H0),
@@ -68,8 +71,8 @@ fn plainly(cells: &mut [u64], regions: Regions, what: Action) -> RunAnswer
     match q {
         Asked::Not(a) => a,
         Asked::Top(top) => {
-            let mut log = [0u64; LOG];
-            let mut order = [0u16; limits::LARGEST_N];
+            let mut log = [UNREAD; LOG];
+            let mut order = [undo::UNREAD; limits::LARGEST_N];
             let mut marks = [0u16; structures::MANY_NUMBERS];
             undo::begin(cells, &mut log);
             let go = act(cells, &mut log, &mut order, &mut marks, what, top);

@@ -1,11 +1,12 @@
 -- The promises are not had emptily: stores for which their hypotheses hold, by computation.
-use Rattle.paper.proofs.Kit.{ℕ, _≡_, refl, [], none, arith, pos}
+use Rattle.paper.proofs.Kit.{clash, ℕ, _≡_, refl, Bool, true, false, [], none, arith, pos}
 use Rattle.paper.specs.declared.RunAnswer.the-variants.{Finished, BudgetSpent}
 use Rattle.paper.specs.Cell.{State, regional, J}
-use Rattle.paper.specs.Act.{done}
+use Rattle.paper.specs.declared.Refusal.{Refusal}
+use Rattle.paper.specs.Act.{Res, done, refused}
 use Rattle.paper.specs.Process.{J72, J74}
 use Rattle.paper.specs.Cycle.{cycle}
-use Rattle.paper.specs.Run.{runFrom, run}
+use Rattle.paper.specs.Run.{run}
 use Rattle.paper.specs.Bench.{fiveCells}
 use Rattle.paper.proofs.SoundTest.{sound-from}
 use Rattle.paper.specs.Plain.{preserveH0}
@@ -79,10 +80,30 @@ unfolding exampleOpen
 counts-one = (refl, refl)
 
 -- a cycle that executes J72, and is accepted: `J72-in-cycle` speaks of it
-pub erases : Runnable erasing × Executes 72 0 erasing × (cycle erasing ≡ done tt (runFrom 1 0 erasing .state))
+erasing-runs : Runnable erasing
+unfolding exampleOpen
+erasing-runs = record { size = refl; test = refl }
+
+erasing-executes : Executes 72 0 erasing
 unfolding exampleOpen fetch orderIn
-erases = (
-  record { size = refl; test = refl },
-  record { going = λ e. let z : _≡_ {A = ℕ} 222 0 = e in omega arith; x = regional (J 72); fetched = refl; process = refl },
-  refl,
-)
+erasing-executes =
+    record { going = λ e. let z : _≡_ {A = ℕ} 222 0 = e in omega arith; x = regional (J 72); fetched = refl; process = refl }
+
+-- what is computed of the cycle is that it is accepted, and not the state that it leaves
+abbrev accepted : Res State Refusal (Unit {0}) → Bool
+accepted (done a t) = true
+accepted (refused e) = false
+
+abbrev Goes : Res State Refusal (Unit {0}) → Type 0
+Goes r = (t : State) × (r ≡ done tt t)
+
+goes : (r : Res State Refusal (Unit {0})) → accepted r ≡ true → Goes r
+goes (done a t) e = (t, refl)
+goes (refused r) e = clash cc
+
+erasing-goes : accepted (cycle erasing) ≡ true
+unfolding exampleOpen
+erasing-goes = refl
+
+pub erases : Runnable erasing × Executes 72 0 erasing × Goes (cycle erasing)
+erases = (erasing-runs, erasing-executes, goes (cycle erasing) erasing-goes)

@@ -31,6 +31,6 @@ andRegion r b k = record { letters = set (r .letters) (r .n) b; counts = set (r 
 unfoldable pub withRegion : Regions → ℕ → ℕ → Regions
 withRegion r b k = cond (ltb (r .n) 23) (andRegion r b k) r
 
--- the table's regions end within 16,384 cells
+-- the table's regions end within the largest store
 pub record Laid (r : Regions) : Type 0 where
   pub ends : endOfRegions (regionsOf r) firstDeck ≤ largestN

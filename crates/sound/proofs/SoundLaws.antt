@@ -105,6 +105,6 @@ pub in-form : (r : Regions) (s lines : List ℕ) (room : ℕ) → r .n ≤ 23 �
 unfolding storeSound sound
 in-form r s lines room n f = rw (le-leb (r .n) 23 n, all-formed s f)
 
--- "N from 256 to 16,384"
+-- "N from 256"; CR 11: "Raise N to 65,535"
 pub size-range : (n : ℕ) → sizeFits n ≡ true → (smallestN ≤ n) × (n ≤ largestN)
 size-range n e = let (a, b) = both (leb smallestN n) (leb n largestN) e in (leb-true smallestN n a, leb-true n largestN b)

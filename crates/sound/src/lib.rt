@@ -120,7 +120,7 @@ pub fn sound(cells: &[u64], regions: Regions) -> bool
     }
 }
 
-// "N from 256 to 16,384."
+// "N from 256"; CR 11: "Raise N to 65,535".
 pub fn size_fits(n: usize) -> bool
     ensures { λ r. ⌜ r ≡ sizeFits n ⌝ }
 {

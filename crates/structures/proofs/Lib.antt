@@ -9,4 +9,5 @@ pub mod Loops
 pub mod FreeNet
 pub mod Run
 pub mod CopyNet
+pub mod Halves
 pub mod Whole

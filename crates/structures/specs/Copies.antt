@@ -1,10 +1,11 @@
 -- A copy keeps the new cell of each old one in the marks: the table old to new.
 use Prim.Native.Nat.{ℕ, _+_, _-_, _<_, _≤_}
 use mathlib.Core.Path.{_≡_}
-use mathlib.Core.Bool.{true, false}
+use mathlib.Core.Bool.{true, false, cond}
 use mathlib.Core.List.{List, [], _∷_, map}
 use mathlib.Core.Option.{Option}
 use lib.ListN.{length, getD, take}
+use lib.Dec.{eqb}
 use Rattle.paper.specs.declared.Refusal.{Refusal}
 use Rattle.paper.specs.Limits.{largestN}
 use Rattle.paper.specs.Cell.{Cell, isFree, wordIn, freeLink, cellAt, H}
@@ -51,9 +52,16 @@ pub record AllNew (order marks : List ℕ) (found n : ℕ) : Type 0 where
   pub some : n ≡ 0 → ⊥
   pub last : member (newOf marks (getD order (n - 1) 0)) (newsOf marks order (n - 1)) ≡ false
 
--- what is copied into the new cells from here on makes a copy of the first n of the order, in n writes and its own
+-- so many writes, unless the verdict is a refusal
+abbrev pub due : ℕ → ℕ → ℕ
+due go n = cond (eqb go 0) n 0
+
+-- what is copied into the new cells from here on makes a copy of the first n of the order; the writes so far and those to come are one more
+-- than there are cells, since new cells are no old ones
 pub record Prepares (order marks : List ℕ) (n : ℕ) (x : List ℕ × List ℕ) (go : ℕ) (y : List ℕ × List ℕ) (r : ℕ) : Type 0 where
+  pub wrote : ℕ
   pub on : (c j : ℕ) (z : List ℕ × List ℕ) (e : Option Refusal)
       → Follows lent Always j (copyAll (newOf marks) (take n order) (newsOf marks order n)) y (told r) z e tt
-      → Follows lent Always (n + j) (copyOf c (take n order)) x (told go) z e (newOf marks c)
-  pub count : used (y .1) ≤ used (x .1) + n
+      → Follows lent Always (wrote + j) (copyOf c (take n order)) x (told go) z e (newOf marks c)
+  pub count : used (y .1) ≤ used (x .1) + wrote
+  pub fits : wrote + due r n ≤ length (x .0) + 1

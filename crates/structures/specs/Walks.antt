@@ -25,7 +25,7 @@ Gets K M s go r v = Follows reading K 0 M s (told go) s (told r) v
 abbrev pub trail : List ℕ → List ℕ → Trail
 trail cs heads = record { met = cs; entered = heads }
 
--- the scratch that a walk is lent: no cell is marked; and "N from 256 to 16,384"
+-- the scratch that a walk is lent: no cell is marked; and N is in range
 pub record Clean (s order marks : List ℕ) : Type 0 where
   pub large : smallestN ≤ length s
   pub small : length s ≤ largestN

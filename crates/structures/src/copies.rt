@@ -1,7 +1,7 @@
 // Copying the cells of a walk: a new cell for each, kept in the marks as the table old to new.
 ghost use mathlib.Core.Path.{_≡_};
 ghost use mathlib.Core.Bool.{true, false, cond};
-ghost use Prim.Native.Nat.{_+_, _*_, _≤_};
+ghost use Prim.Native.Nat.{_+_, _≤_};
 ghost use lib.ListN.{length, take};
 ghost use lib.Dec.{eqb};
 ghost use Rattle.paper.specs.Limits.{largestN};
@@ -12,7 +12,7 @@ ghost use Rattle.undo.specs.Log.{Room};
 ghost use Rattle.undo.specs.Did.{Always, Did};
 ghost use Rattle.structures.specs.Marks.{manyNumbers, Ordered, Clears};
 ghost use Rattle.structures.specs.Walks.{Clean};
-ghost use Rattle.structures.specs.Copies.{newOf, newsOf, Begins, Finds, AllNew, Prepares};
+ghost use Rattle.structures.specs.Copies.{newOf, newsOf, due, Begins, Finds, AllNew, Prepares};
 use crate::Marks;
 use crate::Order;
 use crate::scratch;
@@ -114,7 +114,7 @@ fn prepare(
     n: usize,
     go: u32,
 ) -> u32
-    requires { ⌜ Ordered (now cells) (now order) n × Begins (now order) (now marks) n × Room (now log) n ⌝ }
+    requires { ⌜ Ordered (now cells) (now order) n × Begins (now order) (now marks) n × Room (now log) n × (n ≤ length (now cells)) ⌝ }
     ensures { λ r. ⌜ Prepares (now (order .entry)) (now (marks .exit)) n
         (now (cells .entry), now (log .entry)) go (now (cells .exit), now (log .exit)) r ⌝ }
     ensures { λ _. ⌜ Clears (now (order .entry)) (now (marks .exit)) n ⌝ }
@@ -159,12 +159,15 @@ fn copied(marks: &Marks, x: u64) -> u64
     }
 }
 
-// The first n cells of the order are copied into their new cells.
+// The first n cells of the order are copied into their new cells, unless there was a refusal before: then the log needs no room.
 fn copy_all(cells: &mut [u64], log: &mut [u64], order: &Order, marks: &Marks, n: usize, go: u32)
-    requires { ⌜ Clears (now order) (now marks) n × Room (now log) n ⌝ }
-    ensures { λ _. ⌜ Did Always n (copyAll (newOf (now (marks .entry))) (take n (now (order .entry))) (newsOf (now (marks .entry)) (now (order .entry)) n))
+    requires { ⌜ Clears (now order) (now marks) n × Room (now log) (due go n) ⌝ }
+    ensures { λ _. ⌜ Did Always (due go n) (copyAll (newOf (now (marks .entry))) (take n (now (order .entry))) (newsOf (now (marks .entry)) (now (order .entry)) n))
         cells log go go tt ⌝ }
 {
+    if go != 0 {
+        return;
+    }
     let mut i = 0;
     while i < n {
         let o = order[i];
@@ -183,8 +186,8 @@ pub(crate) fn copy(
     go: u32,
     c: u16,
 ) -> GotCell
-    requires { ⌜ Clean (now cells) (now order) (now marks) × Room (now log) (2 * length (now cells)) ⌝ }
-    ensures { λ r. ⌜ Did Always (2 * length (now (cells .entry))) (copy c) cells log go (r .go) (r .c) ⌝ }
+    requires { ⌜ Clean (now cells) (now order) (now marks) × Room (now log) (length (now cells) + 1) ⌝ }
+    ensures { λ r. ⌜ Did Always (length (now (cells .entry)) + 1) (copy c) cells log go (r .go) (r .c) ⌝ }
     ensures { λ _. ⌜ Clean (now (cells .exit)) (now (order .exit)) (now (marks .exit)) ⌝ }
 {
     let w = walks::walk(cells, order, marks, go, c);

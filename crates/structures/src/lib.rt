@@ -1,6 +1,6 @@
 // "The walk of a structure": its cells in walk order, J71's chain, and the processes J71, J72 and J74, which free or copy the cells met.
 // The blocks are those of paper/specs/Walk and Process.
-ghost use Prim.Native.Nat.{_+_, _*_, _≤_};
+ghost use Prim.Native.Nat.{_+_, _≤_};
 ghost use lib.ListN.{length};
 ghost use Rattle.paper.specs.Process.{J71, J72, J74, perform, then as andThen, goesOn};
 ghost use Rattle.undo.specs.Did.{Top, Suits, Did};
@@ -39,8 +39,8 @@ pub fn on_structures(
     top: u16,
     j: u16,
 ) -> u32
-    requires { ⌜ Clean (now cells) (now order) (now marks) × Suits (now log) (2 * length (now cells) + 2) top × (71 ≤ j) × (j ≤ 74) ⌝ }
-    ensures { λ r. ⌜ Did (Top top) (2 * length (now (cells .entry)) + 2) (perform j) cells log go r (andThen goesOn) ⌝ }
+    requires { ⌜ Clean (now cells) (now order) (now marks) × Suits (now log) (length (now cells) + 3) top × (71 ≤ j) × (j ≤ 74) ⌝ }
+    ensures { λ r. ⌜ Did (Top top) (length (now (cells .entry)) + 3) (perform j) cells log go r (andThen goesOn) ⌝ }
     ensures { λ _. ⌜ Clean (now (cells .exit)) (now (order .exit)) (now (marks .exit)) ⌝ }
 {
     match j {
@@ -105,8 +105,8 @@ pub fn j74(
     go: u32,
     top: u16,
 ) -> u32
-    requires { ⌜ Clean (now cells) (now order) (now marks) × Suits (now log) (2 * length (now cells) + 2) top ⌝ }
-    ensures { λ r. ⌜ Did (Top top) (2 * length (now (cells .entry)) + 2) J74 cells log go r tt ⌝ }
+    requires { ⌜ Clean (now cells) (now order) (now marks) × Suits (now log) (length (now cells) + 3) top ⌝ }
+    ensures { λ r. ⌜ Did (Top top) (length (now (cells .entry)) + 3) J74 cells log go r tt ⌝ }
     ensures { λ _. ⌜ Clean (now (cells .exit)) (now (order .exit)) (now (marks .exit)) ⌝ }
 {
     let w0 = acts::own(cells, limits::H0);

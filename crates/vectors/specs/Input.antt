@@ -2,9 +2,12 @@
 use Prim.Native.Nat.{ℕ, _+_, _*_}
 use mathlib.Core.List.{List}
 use lib.ListN.{getD}
-use Rattle.paper.specs.Record.{pairAt}
+use Rattle.paper.specs.Record.{byteAt, pairAt}
 
--- a budget has four bytes, the number of a cell eight
+-- N has three bytes, a budget four, the number of a cell eight
+abbrev pub threeAt : List ℕ → ℕ → ℕ
+threeAt b i = byteAt b i * 65536 + pairAt b (i + 1)
+
 abbrev pub fourAt : List ℕ → ℕ → ℕ
 fourAt b i = pairAt b i * 65536 + pairAt b (i + 2)
 

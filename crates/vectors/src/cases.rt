@@ -111,11 +111,11 @@ fn demand3(cells: &mut [u64], regions: Regions) {
     answers::end(given);
 }
 
-// N:2 LENGTH:2 DECK
+// N:3 LENGTH:2 DECK
 fn read_load(cells: &mut [u64], bytes: &mut [u8]) -> bool {
-    let begun = input::take(bytes, 4);
-    let n = input::pair(bytes, 0);
-    let len = input::pair(bytes, 2);
+    let begun = input::take(bytes, 5);
+    let n = input::three(bytes, 0);
+    let len = input::pair(bytes, 3);
     if !(begun & input::take(bytes, len)) {
         return false;
     }
@@ -128,13 +128,13 @@ fn read_load(cells: &mut [u64], bytes: &mut [u8]) -> bool {
     false
 }
 
-// N:2 BUDGET:4 ROOM:2 LENGTH:2 DECK
+// N:3 BUDGET:4 ROOM:2 LENGTH:2 DECK
 fn read_load_and_run(cells: &mut [u64], bytes: &mut [u8], out: &mut [u8]) -> bool {
-    let begun = input::take(bytes, 10);
-    let n = input::pair(bytes, 0);
-    let budget = input::four(bytes, 2);
-    let room = input::pair(bytes, 6);
-    let len = input::pair(bytes, 8);
+    let begun = input::take(bytes, 11);
+    let n = input::three(bytes, 0);
+    let budget = input::four(bytes, 3);
+    let room = input::pair(bytes, 7);
+    let len = input::pair(bytes, 9);
     if !(begun & input::take(bytes, len)) {
         return false;
     }
@@ -149,15 +149,15 @@ fn read_load_and_run(cells: &mut [u64], bytes: &mut [u8], out: &mut [u8]) -> boo
     false
 }
 
-// N:2 BUDGET:4 ROOM:2 REGIONS CELLS
+// N:3 BUDGET:4 ROOM:2 REGIONS CELLS
 fn read_run(cells: &mut [u64], bytes: &mut [u8], out: &mut [u8]) -> bool {
-    let begun = input::take(bytes, 8);
-    let n = input::pair(bytes, 0);
-    let budget = input::four(bytes, 2);
-    let room = input::pair(bytes, 6);
+    let begun = input::take(bytes, 9);
+    let n = input::three(bytes, 0);
+    let budget = input::four(bytes, 3);
+    let room = input::pair(bytes, 7);
     let t = input::regions(bytes);
     let r = t.regions;
-    if !(begun & t.whole & input::cells(bytes, cells, n as u16)) {
+    if !(begun & t.whole & input::cells(bytes, cells, n)) {
         return false;
     }
     if n <= cells.len() {
@@ -169,17 +169,17 @@ fn read_run(cells: &mut [u64], bytes: &mut [u8], out: &mut [u8]) -> bool {
     false
 }
 
-// TAG:1 NUMBER:2 N:2 REGIONS CELLS
+// TAG:1 NUMBER:2 N:3 REGIONS CELLS
 fn read_walk(cells: &mut [u64], bytes: &mut [u8]) -> bool {
-    let begun = input::take(bytes, 5);
+    let begun = input::take(bytes, 6);
     let x = Symbol {
         tag: input::byte(bytes, 0),
         num: input::pair(bytes, 1) as u16,
     };
-    let n = input::pair(bytes, 3);
+    let n = input::three(bytes, 3);
     let t = input::regions(bytes);
     let r = t.regions;
-    if !(begun & t.whole & input::cells(bytes, cells, n as u16)) {
+    if !(begun & t.whole & input::cells(bytes, cells, n)) {
         return false;
     }
     if n <= cells.len() {
@@ -189,13 +189,13 @@ fn read_walk(cells: &mut [u64], bytes: &mut [u8]) -> bool {
     false
 }
 
-// N:2 REGIONS CELLS
+// N:3 REGIONS CELLS
 fn read_demand3(cells: &mut [u64], bytes: &mut [u8]) -> bool {
-    let begun = input::take(bytes, 2);
-    let n = input::pair(bytes, 0);
+    let begun = input::take(bytes, 3);
+    let n = input::three(bytes, 0);
     let t = input::regions(bytes);
     let r = t.regions;
-    if !(begun & t.whole & input::cells(bytes, cells, n as u16)) {
+    if !(begun & t.whole & input::cells(bytes, cells, n)) {
         return false;
     }
     if n <= cells.len() {

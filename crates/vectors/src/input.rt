@@ -4,7 +4,7 @@ ghost use mathlib.Core.Bool.{true};
 ghost use Prim.Native.Nat.{_<_, _≤_};
 ghost use lib.ListN.{length};
 ghost use Rattle.paper.specs.Record.{byteAt, pairAt};
-ghost use Rattle.vectors.specs.Input.{fourAt, eightAt};
+ghost use Rattle.vectors.specs.Input.{threeAt, fourAt, eightAt};
 use regions::Regions;
 
 // The next k bytes of the input, at the start of the buffer: whether there were as many.
@@ -47,6 +47,14 @@ pub(crate) fn pair(b: &[u8], at: u16) -> usize
     two(b, at as usize)
 }
 
+// N has three bytes, so that a case can have more cells than a store.
+pub(crate) fn three(b: &[u8], at: u16) -> usize
+    ensures { λ r. ⌜ (r ≡ threeAt (now (b .entry)) at) × (r < 16777216) ⌝ }
+{
+    let i = at as usize;
+    wide(byte(b, i)) * 65536 + two(b, i + 1)
+}
+
 pub(crate) fn four(b: &[u8], at: u16) -> u32
     ensures { λ r. ⌜ r ≡ fourAt (now (b .entry)) at ⌝ }
 {
@@ -63,15 +71,14 @@ fn cell(b: &[u8]) -> u64
     (high * 4294967296 + low) as u64
 }
 
-fn put(cells: &mut [u64], c: u16, x: u64) {
-    let i = c as usize;
-    if i < cells.len() {
-        cells[i] = x;
+fn put(cells: &mut [u64], c: usize, x: u64) {
+    if c < cells.len() {
+        cells[c] = x;
     }
 }
 
 // The cells that come next, each read by itself, so that no buffer has to hold them all: whether there were n.
-pub(crate) fn cells(bytes: &mut [u8], cells: &mut [u64], n: u16) -> bool {
+pub(crate) fn cells(bytes: &mut [u8], cells: &mut [u64], n: usize) -> bool {
     let mut whole = true;
     let mut c = 0;
     while c < n {

@@ -18,7 +18,7 @@ returns c =
 
 -- the places of the log, LOG of the code
 abbrev places : ℕ
-places = 2 * (2 * largestN + 2) + 5
+places = 2 * (largestN + 3) + 5
 
 -- the store passed
 abbrev Sound : Type 0
@@ -36,7 +36,7 @@ begin-requires : tie.Need-begin-requires
 begin-requires c κs =
     let c₁ = c .before .before .before in
     let n = size-range (length (start c₁ .args .cells .now)) (passed c₁ .size) in
-    (omega (arith, n .0), omega (arith, length-replicate {A = ℕ} places 0))
+    (omega (arith, n .0), omega (arith, length-replicate {A = ℕ} places 1))
 
 act-requires : tie.Need-act-requires
 act-requires c κs =
@@ -44,9 +44,9 @@ act-requires c κs =
     let p = passed (c₁ .before .before .before .before) in
     let n = size-range _ (p .size) in
     let b = c₁ .begin in (
-      record { large = n .0; small = n .1; sized = length-replicate {A = ℕ} largestN 0; unmarked = refl },
+      record { large = n .0; small = n .1; sized = length-replicate {A = ℕ} largestN 1; unmarked = refl },
       record {
-        fits = omega (arith, n .1, b .ensures .count, b .kept, length-replicate {A = ℕ} places 0);
+        fits = omega (arith, n .1, b .ensures .count, b .kept, length-replicate {A = ℕ} places 1);
         ends = end-from (regionsOf (start (c₁ .before .before .before .before) .args .regions)) (p .end);
       },
     )
@@ -58,7 +58,7 @@ settle-requires c κs =
     let c₂ = c₁ .before .before .before .before in
     let n = size-range (length (start c₂ .args .cells .now)) (passed c₂ .size) in
     let b = c₁ .begin in
-    record { fits = omega (arith, t .ensures .kept .count, t .kept .1 .0, n .1, b .ensures .count, b .kept, length-replicate {A = ℕ} places 0) }
+    record { fits = omega (arith, t .ensures .kept .count, t .kept .1 .0, n .1, b .ensures .count, b .kept, length-replicate {A = ℕ} places 1) }
 
 returns-2 : tie.Need-returns-2
 returns-2 c =

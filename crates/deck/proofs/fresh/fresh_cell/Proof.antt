@@ -8,61 +8,60 @@ use Rattle.deck.proofs.fresh.fresh_cell.Statement.{statement}
 use Rattle.deck.proofs.fresh.fresh_cell.Tie as tie
 
 returns : tie.Need-returns
-returns c = packs-as (f-zero _ _ _ (c .before .if1 .taken)) (c .of-fields .ensures)
+returns c = packs-as (f-region _ _ _ (c .before .if1 .taken) (c .if2 .taken)) empty-packs
 
 returns-2 : tie.Need-returns-2
 returns-2 c =
     let c₁ = c .before in
     let c₂ = c₁ .before in
+    let c₃ = c₂ .before in
+    let a = c₃ .before .args in
     packs-as
-    (f-H2 _ _ _ (c₂ .before .if2 .taken) ∙ ap (λ n. word (emptyWord n)) (sym (c₁ .next-free .ensures))
-    ∙ ap (λ (x : Symbol). word (mkWord 0 (x .tag) (x .num) (c₁ .next-free .result))) (sym (c₂ .empty .ensures)))
-    (c .of-fields2 .ensures)
+    (f-free _ _ _ (c₃ .if1 .taken) (c₂ .if2 .left) ∙ ap free (sym (c₁ .next-free .ensures ∙ ap (nextFree (a .size)) (add-one (a .c))))) (c .of-free .ensures)
 
 returns-3 : tie.Need-returns-3
-returns-3 c = packs-as (f-H3 _ _ _ (c .before .if3 .taken)) (c .of-term .ensures)
+returns-3 c = packs-as (f-zero _ _ _ (c .before .if3 .taken)) (c .of-fields .ensures)
 
 returns-4 : tie.Need-returns-4
 returns-4 c =
     let c₁ = c .before in
     let c₂ = c₁ .before in
-    packs-as (f-HW _ _ _ (c₂ .before .if1 .left) (c₂ .if2 .left) (c₁ .if3 .left) (c .if4 .taken)) empty-packs
+    packs-as
+    (f-H2 _ _ _ (c₂ .before .if4 .taken) ∙ ap (λ n. word (emptyWord n)) (sym (c₁ .next-free2 .ensures))
+    ∙ ap (λ (x : Symbol). word (mkWord 0 (x .tag) (x .num) (c₁ .next-free2 .result))) (sym (c₂ .empty .ensures)))
+    (c .of-fields2 .ensures)
 
 returns-5 : tie.Need-returns-5
-returns-5 c =
-    let c₁ = c .before in
-    packs-as (f-J _ _ _ (c₁ .before .if4 .left) (c₁ .if5 .taken)) (c .of-process .ensures)
+returns-5 c = packs-as (f-H3 _ _ _ (c .before .if5 .taken)) (c .of-term .ensures)
 
 returns-6 : tie.Need-returns-6
-returns-6 c = packs-as (f-region _ _ _ (c .before .if5 .left) (c .if6 .taken)) empty-packs
+returns-6 c =
+    let c₁ = c .before in
+    let c₂ = c₁ .before in
+    packs-as (f-HW _ _ _ (c₂ .before .if3 .left) (c₂ .if4 .left) (c₁ .if5 .left) (c .if6 .taken)) empty-packs
 
 returns-7 : tie.Need-returns-7
 returns-7 c =
     let c₁ = c .before in
-    let c₂ = c₁ .before in
-    let c₃ = c₂ .before in
-    let c₄ = c₃ .before .before .before .before .before in
-    packs-as
-    (f-free _ _ _ (c₃ .if5 .left) (c₂ .if6 .left)
-    ∙ ap free (sym (c₁ .next-free2 .ensures ∙ ap (nextFree (c₄ .args .size)) (add-one (c₄ .args .c))))) (c .of-free .ensures)
+    packs-as (f-J _ _ _ (c₁ .if6 .left) (c₁ .before .before .before .before .if1 .left)) (c .of-process .ensures)
 
 pub fresh-cell-spec : {M : Type 1} → statement M
 fresh-cell-spec =
     tie.close
     (tie.spec
-    (λ c κs. search needs)
     returns
-    (λ c κs. search needs)
+    (λ c. search needs)
     (λ c κs. search needs)
     (λ c κs. search needs)
     returns-2
     (λ c κs. search needs)
     returns-3
+    (λ c κs. search needs)
+    (λ c κs. search needs)
+    (λ c κs. search needs)
     returns-4
     (λ c κs. search needs)
     returns-5
     returns-6
-    (λ c. search needs)
-    (λ c κs. search needs)
     (λ c κs. search needs)
     returns-7)

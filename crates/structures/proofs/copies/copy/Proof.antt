@@ -7,14 +7,14 @@ prepare-requires : tie.Need-prepare-requires
 prepare-requires c κs =
     let w = c .before .before .before .before .walk .ensures in
     let p = c .before .before .before .before .before .before .before .before .before .before .pre in
-    (w .ordered, lists-begins (p .0 .small) w, record { fits = omega (arith, w .few, p .1 .fits) })
+    (w .ordered, lists-begins (p .0 .small) w, record { fits = omega (arith, w .few, p .1 .fits) }, w .few)
 
 copy-all-requires : tie.Need-copy-all-requires
 copy-all-requires c κs =
     let t = c .before .before .before .before .before .before .before .before .prepare in
     let c₁ = c .before .before .before .before .before .before .before .before .before .before .before .before .before in
     let p = c₁ .before .before .before .before .before .before .pre in
-    (t .ensures .1, record { fits = omega (arith, t .ensures .0 .count, t .kept .1 .0, c₁ .walk .ensures .few, p .1 .fits) })
+    (t .ensures .1, record { fits = omega (arith, t .ensures .0 .count, t .ensures .0 .fits, t .kept .1 .0, p .1 .fits) })
 
 returns : tie.Need-returns
 returns c =
@@ -25,7 +25,7 @@ returns c =
     let p = c₄ .before .before .before .before .before .before .pre in
     let t = c₃ .prepare .ensures in
     let w = c₄ .walk .ensures in (
-      copied-whole _ _ _ _ _ (w .few) (w .says) (t .0) (c₂ .copy-all .ensures) (c₁ .mark-at .ensures),
+      copied-whole _ _ _ _ (w .says) (t .0) (c₂ .copy-all .ensures) (c₁ .mark-at .ensures),
       record {
         large = omega (arith, c₂ .copy-all .kept .0, c₃ .prepare .kept .0, p .0 .large);
         small = omega (arith, c₂ .copy-all .kept .0, c₃ .prepare .kept .0, p .0 .small);

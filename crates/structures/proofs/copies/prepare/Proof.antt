@@ -14,12 +14,13 @@ returns c =
     let p = c₃ .before .before .before .before .before .before .before .before in
     let n = c₃ .before .all-new .ensures (c₃ .if1 .taken) in
     let l = subst (Clears _ _) (n .all) (f .ensures .clears) in
-    (prepared-found _ _ _ l (p .pre .0) (f .ensures) n (c₂ .own .ensures) (puts _ (c₁ .before .with-link .ensures) (c₁ .put .ensures)), l)
+    (prepared-found _ _ _ l (p .pre .0) (p .pre .3) (f .ensures) n (c₂ .own .ensures) (puts _ (c₁ .before .with-link .ensures) (c₁ .put .ensures)), l)
 
 returns-2 : tie.Need-returns-2
 returns-2 c =
     let t = c .before .before .before .before .take-all .ensures in
-    (prepared-taken _ _ _ (t .1) (t .0), t .1)
+    let p = c .before .before .before .before .before .before .before .before .before .before .before .before .before .before .before .before .before .before .pre in
+    (prepared-taken _ _ _ (t .1) (p .0) (p .3) (t .0), t .1)
 
 pub prepare-spec : {M : Type 1} → statement M
 prepare-spec =
