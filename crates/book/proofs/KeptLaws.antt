@@ -1,62 +1,70 @@
--- Laws of the locals in two arrays.
-use Rattle.paper.proofs.Kit.{clash, _||_, ℕ, zero, suc, _+_, _<_, _≤_, Bool, true, false, _&&_, not, List, [], _∷_, _≡_, refl, ap, _∙_, sym, arith, add-one}
-use Rattle.paper.proofs.Kit.{eqb, length, getD, set, drop, drop-of-length-le, drop-cons}
+-- Laws of the locals, a number for each.
+use Rattle.paper.proofs.Kit.{_||_, ℕ, zero, suc, _+_, _%_, _<_, _≤_, Bool, true, false, _&&_, List, [], _∷_, _≡_, refl, ap, _∙_, sym, arith, add-one}
+use Rattle.paper.proofs.Kit.{leb, eqb, le-leb, lt-leb, leb-false, length, getD, set, replicate, drop, drop-of-length-le, drop-cons}
+use Rattle.paper.proofs.Kit.{List·getD-eq-default, and-assoc}
 use Rattle.paper.specs.Deck.{LocalCell, noLocal, localAt, allWords}
-use Rattle.book.specs.Kept.{localsOf}
+use Rattle.book.specs.Kept.{localOf, localsOf}
 
 -- a local read and written
-abbrev pub localIn : List ℕ → List Bool → ℕ → LocalCell
-localIn cs fs n = record { cell = getD cs n 0; hasWord = getD fs n false }
+pub local-at : (l : List ℕ) (n : ℕ) → localAt (localsOf l) n ≡ localOf (getD l n 0)
+unfolding localOf
+local-at [] n = refl
+local-at (x ∷ l) zero = refl
+local-at (x ∷ l) (suc n) = local-at l n
 
-pub local-at : (cs : List ℕ) (fs : List Bool) (n : ℕ) → n < length cs → n < length fs → localAt (localsOf cs fs) n ≡ localIn cs fs n
-unfolding localsOf
-local-at [] fs n h k = absurd (omega arith)
-local-at (c ∷ cs) [] n h k = absurd (omega arith)
-local-at (c ∷ cs) (f ∷ fs) zero h k = refl
-local-at (c ∷ cs) (f ∷ fs) (suc n) h k = local-at cs fs n (omega arith) (omega arith)
+pub local-out : (l : List ℕ) (n : ℕ) → length l ≤ n → localAt (localsOf l) n ≡ noLocal
+unfolding localOf
+local-out l n h = local-at l n ∙ ap localOf (List·getD-eq-default l 0 h)
 
-pub local-out : (cs : List ℕ) (fs : List Bool) (n : ℕ) → length cs ≤ n → localAt (localsOf cs fs) n ≡ noLocal
-unfolding localsOf
-local-out [] fs n h = refl
-local-out (c ∷ cs) [] n h = refl
-local-out (c ∷ cs) (f ∷ fs) zero h = absurd (omega arith)
-local-out (c ∷ cs) (f ∷ fs) (suc n) h = local-out cs fs n (omega arith)
+pub local-set : (l : List ℕ) (n x : ℕ) → localsOf (set l n x) ≡ set (localsOf l) n (localOf x)
+local-set [] n x = refl
+local-set (y ∷ l) zero x = refl
+local-set (y ∷ l) (suc n) x = ap (λ (ls : List LocalCell). localOf y ∷ ls) (local-set l n x)
 
-pub local-set : (cs : List ℕ) (fs : List Bool) (n c : ℕ) (w : Bool)
-    → localsOf (set cs n c) (set fs n w) ≡ set (localsOf cs fs) n (record { cell = c; hasWord = w })
-unfolding localsOf
-local-set [] fs n c w = refl
-local-set (x ∷ cs) [] zero c w = refl
-local-set (x ∷ cs) [] (suc n) c w = refl
-local-set (x ∷ cs) (f ∷ fs) zero c w = refl
-local-set (x ∷ cs) (f ∷ fs) (suc n) c w = ap (λ (ls : List LocalCell). record { cell = x; hasWord = f } ∷ ls) (local-set cs fs n c w)
+pub local-none : (n : ℕ) → localsOf (replicate n 0) ≡ replicate n noLocal
+unfolding localOf
+local-none zero = refl
+local-none (suc n) = ap (λ (ls : List LocalCell). noLocal ∷ ls) (local-none n)
+
+-- what is stored of a local with the cell c
+pub mentioned : (c : ℕ) → c < 65536 → localOf c ≡ record { cell = c; hasWord = false }
+unfolding localOf
+mentioned c h = let e : c % 65536 ≡ c = omega arith in rw (e, lt-leb 65536 c h)
+
+pub defined : (c : ℕ) → c < 65536 → localOf (c + 65536) ≡ record { cell = c; hasWord = true }
+unfolding localOf
+defined c h = let e : (c + 65536) % 65536 ≡ c = omega arith in rw (e, le-leb 65536 (c + 65536) (omega arith))
 
 -- whether all have words, from number i on
-abbrev pub wordsFrom : List ℕ → List Bool → ℕ → Bool
-wordsFrom cs fs i = allWords (localsOf (drop i cs) (drop i fs))
+abbrev pub wordsFrom : List ℕ → ℕ → Bool
+wordsFrom l i = allWords (localsOf (drop i l))
 
-words-more : (cs : List ℕ) (fs : List Bool) (i : ℕ) → i < length cs → i < length fs
-    → wordsFrom cs fs i ≡ ((eqb (getD cs i 0) 0 || getD fs i false) && wordsFrom cs fs (i + 1))
-unfolding localsOf allWords
-words-more cs fs i h k = rw (drop-cons cs i 0 h, drop-cons fs i false k, add-one)
+-- the test of the code is that of the definition
+same-test : (x : ℕ) → (eqb x 0 || leb 65536 x) ≡ (eqb (x % 65536) 0 || leb 65536 x)
+same-test x = go (leb 65536 x) refl
+  where
+    or-yes : (a b : Bool) → (a || true) ≡ (b || true)
+    or-yes true true = refl
+    or-yes true false = refl
+    or-yes false true = refl
+    or-yes false false = refl
 
-missing : (x f y : Bool) → (not x && not f) ≡ true → ((x || f) && y) ≡ false
-missing true f y e = clash cc
-missing false true y e = clash cc
-missing false false y e = refl
+    go : (t : Bool) → leb 65536 x ≡ t → (eqb x 0 || t) ≡ (eqb (x % 65536) 0 || t)
+    go true e = or-yes (eqb x 0) (eqb (x % 65536) 0)
+    go false e = let f : x % 65536 ≡ x = omega (arith, leb-false 65536 x e) in rw f
 
-there : (x f y : Bool) → (not x && not f) ≡ false → y ≡ ((x || f) && y)
-there true f y e = refl
-there false true y e = refl
-there false false y e = clash cc
+words-more : (l : List ℕ) (i : ℕ) → i < length l → wordsFrom l i ≡ ((eqb (getD l i 0) 0 || leb 65536 (getD l i 0)) && wordsFrom l (i + 1))
+unfolding localOf allWords
+words-more l i h = rw (same-test (getD l i 0), drop-cons l i 0 h, add-one)
 
-module _ (cs : List ℕ) (fs : List Bool) (i : ℕ) (h : i < length cs) (k : i < length fs) where
-  pub words-missing : (not (eqb (getD cs i 0) 0) && not (getD fs i false)) ≡ true → wordsFrom cs fs i ≡ false
-  words-missing e = words-more cs fs i h k ∙ missing (eqb (getD cs i 0) 0) (getD fs i false) (wordsFrom cs fs (i + 1)) e
+pub words-on : (l : List ℕ) (i : ℕ) (all v : Bool) → i < length l → (all && wordsFrom l i) ≡ v
+    → ((all && (eqb (getD l i 0) 0 || leb 65536 (getD l i 0))) && wordsFrom l (i + 1)) ≡ v
+words-on l i all v h e = and-assoc all _ _ ∙ ap (λ (b : Bool). all && b) (sym (words-more l i h)) ∙ e
 
-  pub words-on : (not (eqb (getD cs i 0) 0) && not (getD fs i false)) ≡ false → wordsFrom cs fs (i + 1) ≡ wordsFrom cs fs i
-  words-on e = there (eqb (getD cs i 0) 0) (getD fs i false) (wordsFrom cs fs (i + 1)) e ∙ sym (words-more cs fs i h k)
-
-pub words-end : (cs : List ℕ) (fs : List Bool) (i : ℕ) → length cs ≤ i → wordsFrom cs fs i ≡ true
-unfolding localsOf allWords
-words-end cs fs i h = rw (drop-of-length-le cs h)
+pub words-end : (l : List ℕ) (i : ℕ) (all v : Bool) → length l ≤ i → (all && wordsFrom l i) ≡ v → all ≡ v
+unfolding allWords
+words-end l i all v h e = sym (and-yes all) ∙ ap (λ (ls : List ℕ). all && allWords (localsOf ls)) (sym (drop-of-length-le l h)) ∙ e
+  where
+    and-yes : (b : Bool) → (b && true) ≡ b
+    and-yes true = refl
+    and-yes false = refl

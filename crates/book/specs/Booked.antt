@@ -36,34 +36,52 @@ Told K M go r = Follows (testing Book Fault) K 0 M tt (toldFault go) tt (toldFau
 abbrev pub Booked : {A : Type 0} → Load A → Held → ℕ → Held → ℕ → A → Type 0
 Booked M h go h′ r v = Follows loading Always 0 M h (toldFault go) h′ (toldFault r) v
 
--- lent cells and names, before and after
+-- lent cells (or locals) and names, before and after
 abbrev pub LentCells : Type 0
 LentCells = Both (RefT (List ℕ)) (RefT (List ℕ))
 
 abbrev pub LentNames : Type 0
 LentNames = Both (RefT (List Bool)) (RefT (List Bool))
 
--- on the cells, whatever the regions, the notes and the names are
+-- on the cells, whatever the regions, the notes, the locals and the names are
 abbrev pub OnCells : {A : Type 0} → Load A → LentCells → ℕ → ℕ → A → Type 0
 OnCells M cells go r v =
-    (rs : List Region) (k : Notes) (m : List Bool) → Booked M (held rs k (now (cells .entry)) m) go (held rs k (now (cells .exit)) m) r v
+    (rs : List Region) (k : Notes) (l : List ℕ) (m : List Bool)
+    → Booked M (held rs k l (now (cells .entry)) m) go (held rs k l (now (cells .exit)) m) r v
 
--- on the notes and the cells, whatever the regions and the names are
+-- on the locals and the cells, whatever the regions, the notes and the names are
+abbrev pub OnLocals : {A : Type 0} → Load A → LentCells → LentCells → ℕ → ℕ → A → Type 0
+OnLocals M locals cells go r v =
+    (rs : List Region) (k : Notes) (m : List Bool)
+    → Booked M (held rs k (now (locals .entry)) (now (cells .entry)) m) go (held rs k (now (locals .exit)) (now (cells .exit)) m) r v
+
+-- on the notes and the cells, whatever the regions, the locals and the names are
 abbrev pub OnNotes : {A : Type 0} → Load A → Notes → LentCells → ℕ → Notes → ℕ → A → Type 0
 OnNotes M k cells go k′ r v =
-    (rs : List Region) (m : List Bool) → Booked M (held rs k (now (cells .entry)) m) go (held rs k′ (now (cells .exit)) m) r v
+    (rs : List Region) (l : List ℕ) (m : List Bool)
+    → Booked M (held rs k l (now (cells .entry)) m) go (held rs k′ l (now (cells .exit)) m) r v
 
--- with a table of regions, whatever the names are
-abbrev pub OnTable : {A : Type 0} → Load A → Regions → Notes → LentCells → ℕ → Notes → ℕ → A → Type 0
-OnTable M t k cells go k′ r v =
-    (m : List Bool) → Booked M (held (regionsOf t) k (now (cells .entry)) m) go (held (regionsOf t) k′ (now (cells .exit)) m) r v
+-- with a table of regions, whatever the notes and the names are
+abbrev pub OnTable : {A : Type 0} → Load A → Regions → LentCells → LentCells → ℕ → ℕ → A → Type 0
+OnTable M t locals cells go r v =
+    (k : Notes) (m : List Bool)
+    → Booked M (held (regionsOf t) k (now (locals .entry)) (now (cells .entry)) m) go
+    (held (regionsOf t) k (now (locals .exit)) (now (cells .exit)) m) r v
 
--- on the notes and the names, whatever the cells are
-abbrev pub OnNames : {A : Type 0} → Load A → Regions → Notes → LentNames → ℕ → Notes → ℕ → A → Type 0
-OnNames M t k names go k′ r v =
-    (s : List ℕ) → Booked M (held (regionsOf t) k s (now (names .entry))) go (held (regionsOf t) k′ s (now (names .exit))) r v
+-- with a table, notes and locals that stay, whatever the names are
+abbrev pub OnKept : {A : Type 0} → Load A → Regions → Notes → List ℕ → LentCells → ℕ → ℕ → A → Type 0
+OnKept M t k l cells go r v =
+    (m : List Bool) → Booked M (held (regionsOf t) k l (now (cells .entry)) m) go (held (regionsOf t) k l (now (cells .exit)) m) r v
+
+-- on the notes, the locals and the names, whatever the cells are
+abbrev pub OnNames : {A : Type 0} → Load A → Regions → Notes → LentCells → LentNames → ℕ → Notes → ℕ → A → Type 0
+OnNames M t k locals names go k′ r v =
+    (s : List ℕ)
+    → Booked M (held (regionsOf t) k (now (locals .entry)) s (now (names .entry))) go
+    (held (regionsOf t) k′ (now (locals .exit)) s (now (names .exit))) r v
 
 -- on all of it
-abbrev pub OnAll : {A : Type 0} → Load A → Regions → Notes → LentCells → LentNames → ℕ → Notes → ℕ → A → Type 0
-OnAll M t k cells names go k′ r v =
-    Booked M (held (regionsOf t) k (now (cells .entry)) (now (names .entry))) go (held (regionsOf t) k′ (now (cells .exit)) (now (names .exit))) r v
+abbrev pub OnAll : {A : Type 0} → Load A → Regions → Notes → LentCells → LentCells → LentNames → ℕ → Notes → ℕ → A → Type 0
+OnAll M t k locals cells names go k′ r v =
+    Booked M (held (regionsOf t) k (now (locals .entry)) (now (cells .entry)) (now (names .entry))) go
+    (held (regionsOf t) k′ (now (locals .exit)) (now (cells .exit)) (now (names .exit))) r v

@@ -10,23 +10,31 @@ ghost use Rattle.paper.specs.Cell.{Cell, Region};
 ghost use Rattle.cells.specs.Pack.{Packs};
 ghost use Rattle.paper.specs.Step.{refuseIf, ret, ifThen};
 ghost use Rattle.paper.specs.Record.{inRegion, asLocal};
-ghost use Rattle.paper.specs.Deck.{localAt, allWords, takeCell, newLocal, mention, known, nameFits, closes, cellFor, cellNamed, linkUp, fill, canStart};
+ghost use Rattle.paper.specs.Deck.{takeCell, newLocal, mention, known, nameFits, closes, cellFor, cellNamed, linkUp, fill, canStart};
 ghost use Rattle.steps.specs.Follows.{Always};
 ghost use Rattle.regions.specs.Table.{Laid};
 ghost use Rattle.records.specs.Symbols.{nameOf};
 ghost use Rattle.book.specs.declared.Notes.{Notes};
-ghost use Rattle.book.specs.Kept.{localsOf, noNotes, localNoted, structureNoted, held, bookOf, RegionsAre, LocalsAre, NotedIn};
+ghost use Rattle.book.specs.Kept.{noNotes, held, bookOf, RegionsAre, LocalsAre, NotedIn};
 ghost use Rattle.book.specs.Verdict.{faultBy, toldFault};
-ghost use Rattle.book.specs.Booked.{Told, OnCells, OnNotes, OnTable, OnNames, OnAll};
+ghost use Rattle.book.specs.Booked.{Told, OnCells, OnLocals, OnNotes, OnTable, OnNames, OnAll};
 
 mod fields;
 mod listed;
+mod locals;
 mod names;
 
 pub use fields::data_tag;
 pub use fields::is_blank;
 pub use fields::is_missing;
 use listed::is_listed;
+pub use locals::Locals;
+use locals::WORD;
+use locals::all_words;
+use locals::cell_of;
+pub use locals::forget;
+use locals::has_word;
+use locals::note;
 use names::mark;
 use names::named;
 use paper::Fault;
@@ -35,14 +43,11 @@ use paper::limits;
 use records::Name;
 use regions::Regions;
 
-// Whether a word has come and whether a structure is open, the cell whose blank LINK the next record fills, and of each local its cell and
-// whether it has a word.
+// Whether a word has come and whether a structure is open, and the cell whose blank LINK the next record fills.
 pub struct Notes {
     pub words: bool,
     pub opened: bool,
     pub waiting: u16,
-    pub locals: [u16; limits::MANY_LOCALS],
-    pub filled: [bool; limits::MANY_LOCALS],
 }
 
 // What a step comes to. What it writes after a refusal does not count: a refused load zeroes every cell.
@@ -106,68 +111,7 @@ impl Notes {
             words: false,
             opened: false,
             waiting: 0,
-            locals: [0; limits::MANY_LOCALS],
-            filled: [false; limits::MANY_LOCALS],
         }
-    }
-
-    // The cell of a local; 0 before its first mention.
-    fn local_cell(self, n: u16) -> u16
-        ensures { λ r. ⌜ r ≡ localAt (localsOf (self .locals) (self .filled)) n .cell ⌝ }
-    {
-        let i = n as usize;
-        if i < limits::MANY_LOCALS {
-            return self.locals[i];
-        }
-        0
-    }
-
-    fn has_word(self, n: u16) -> bool
-        ensures { λ r. ⌜ r ≡ localAt (localsOf (self .locals) (self .filled)) n .hasWord ⌝ }
-    {
-        let i = n as usize;
-        if i < limits::MANY_LOCALS {
-            return self.filled[i];
-        }
-        false
-    }
-
-    fn with_local(mut self, n: u16, c: u16, w: bool) -> Self
-        ensures { λ r. ⌜ r ≡ localNoted self n c w ⌝ }
-    {
-        let i = n as usize;
-        if i < limits::MANY_LOCALS {
-            self.locals[i] = c;
-            self.filled[i] = w;
-        }
-        self
-    }
-
-    // "A regional NAME outside H, W, J opens a structure; locals belong to the open one"
-    fn with_structure(self) -> Self
-        ensures { λ r. ⌜ r ≡ structureNoted self ⌝ }
-    {
-        Self {
-            words: true,
-            opened: true,
-            waiting: self.waiting,
-            locals: [0; limits::MANY_LOCALS],
-            filled: [false; limits::MANY_LOCALS],
-        }
-    }
-
-    // Whether each local that was mentioned has a word.
-    fn all_words(self) -> bool
-        ensures { λ r. ⌜ r ≡ allWords (localsOf (self .locals) (self .filled)) ⌝ }
-    {
-        let mut i = 0;
-        while i < limits::MANY_LOCALS {
-            if (self.locals[i] != 0) & !self.filled[i] {
-                return false;
-            }
-            i += 1;
-        }
-        true
     }
 }
 
@@ -184,30 +128,23 @@ fn take_cell(cells: &mut [u64], go: u8) -> Taken
     Taken { go: go, c: c }
 }
 
-fn new_local(cells: &mut [u64], notes: Notes, go: u8, n: u16) -> Got
-    ensures { λ r. ⌜ OnNotes (newLocal n) notes cells go (r .notes) (r .go) (r .c) ⌝ }
+fn new_local(cells: &mut [u64], locals: &mut Locals, go: u8, n: u16) -> Taken
+    ensures { λ r. ⌜ OnLocals (newLocal n) locals cells go (r .go) (r .c) ⌝ }
 {
     let t = take_cell(cells, go);
-    Got {
-        go: t.go,
-        notes: notes.with_local(n, t.c, false),
-        c: t.c,
-    }
+    note(locals, n, t.c as u32);
+    t
 }
 
 // "locals .. get a cell at first mention"
-fn mention(cells: &mut [u64], notes: Notes, go: u8, n: u16) -> Got
-    ensures { λ r. ⌜ OnNotes (mention n) notes cells go (r .notes) (r .go) (r .c) ⌝ }
+fn mention(cells: &mut [u64], locals: &mut Locals, go: u8, n: u16) -> Taken
+    ensures { λ r. ⌜ OnLocals (mention n) locals cells go (r .go) (r .c) ⌝ }
 {
-    let c = notes.local_cell(n);
+    let c = cell_of(locals, n);
     if c == 0 {
-        return new_local(cells, notes, go, n);
+        return new_local(cells, locals, go, n);
     }
-    Got {
-        go: go,
-        notes: notes,
-        c: c,
-    }
+    Taken { go: go, c: c }
 }
 
 // "any regional symbol outside its region or of an undeclared one"
@@ -227,6 +164,7 @@ pub fn known(regions: Regions, go: u8, f: Field) -> u8
 // structure open: each record that is loaded leaves one open (OpenLaws of `paper`).
 pub fn name_fits(
     names: &[bool],
+    locals: &Locals,
     regions: Regions,
     notes: Notes,
     go: u8,
@@ -234,7 +172,7 @@ pub fn name_fits(
     name: Name,
 ) -> u8
     requires { ⌜ Laid regions ⌝ }
-    ensures { λ r. ⌜ Told (NotedIn regions notes (now (names .entry))) (nameFits word (nameOf name)) go r ⌝ }
+    ensures { λ r. ⌜ Told (NotedIn regions notes (now (locals .entry)) (now (names .entry))) (nameFits word (nameOf name)) go r ⌝ }
 {
     let w = notes.waiting;
     match name {
@@ -245,7 +183,7 @@ pub fn name_fits(
         Name::Local(n) => {
             refuse_if(
                 go,
-                ((w != 0) & !word) | !notes.opened | notes.has_word(n),
+                ((w != 0) & !word) | !notes.opened | has_word(locals, n),
                 6,
             )
         }
@@ -254,53 +192,71 @@ pub fn name_fits(
 }
 
 // "A structure ends at the next such regional NAME or at kind 5."
-pub fn closes(notes: Notes, go: u8) -> u8
-    ensures { λ r. ⌜ Told (LocalsAre notes) closes go r ⌝ }
+pub fn closes(locals: &Locals, go: u8) -> u8
+    ensures { λ r. ⌜ Told (LocalsAre (now (locals .entry))) closes go r ⌝ }
 {
-    refuse_if(go, !notes.all_words(), 7)
+    refuse_if(go, !all_words(locals), 7)
 }
 
-fn open_structure(names: &mut [bool], regions: Regions, notes: Notes, go: u8, b: u8, n: u16) -> Got
+// "A regional NAME outside H, W, J opens a structure; locals belong to the open one"
+fn open_structure(
+    names: &mut [bool],
+    locals: &mut Locals,
+    regions: Regions,
+    notes: Notes,
+    go: u8,
+    b: u8,
+    n: u16,
+) -> Got
     requires { ⌜ Laid regions ⌝ }
-    ensures { λ r. ⌜ OnNames (cellFor (inRegion b n)) regions notes names go (r .notes) (r .go) (r .c) ⌝ }
+    ensures { λ r. ⌜ OnNames (cellFor (inRegion b n)) regions notes locals names go (r .notes) (r .go) (r .c) ⌝ }
 {
-    let go = closes(notes, go);
+    let go = closes(locals, go);
     let c = regions.cell_of(b, n);
     mark(names, c);
+    forget(locals);
     Got {
         go: go,
-        notes: notes.with_structure(),
+        notes: Notes {
+            words: true,
+            opened: true,
+            waiting: notes.waiting,
+        },
         c: c,
     }
 }
 
-fn define_local(cells: &mut [u64], notes: Notes, go: u8, n: u16) -> Got
-    ensures { λ r. ⌜ OnNotes (cellFor (asLocal n)) notes cells go (r .notes) (r .go) (r .c) ⌝ }
+fn define_local(cells: &mut [u64], locals: &mut Locals, go: u8, n: u16) -> Taken
+    ensures { λ r. ⌜ OnLocals (cellFor (asLocal n)) locals cells go (r .go) (r .c) ⌝ }
 {
-    let g = mention(cells, notes, go, n);
-    let k = g.notes;
-    Got {
-        go: g.go,
-        notes: k.with_local(n, g.c, true),
-        c: g.c,
-    }
+    let t = mention(cells, locals, go, n);
+    note(locals, n, t.c as u32 + WORD);
+    t
 }
 
 // The cell that NAME gives a record: "a blank-named word gets its cell at NAME".
 pub fn cell_for(
     cells: &mut [u64],
     names: &mut [bool],
+    locals: &mut Locals,
     regions: Regions,
     notes: Notes,
     go: u8,
     name: Name,
 ) -> Got
     requires { ⌜ Laid regions ⌝ }
-    ensures { λ r. ⌜ OnAll (cellFor (nameOf name)) regions notes cells names go (r .notes) (r .go) (r .c) ⌝ }
+    ensures { λ r. ⌜ OnAll (cellFor (nameOf name)) regions notes locals cells names go (r .notes) (r .go) (r .c) ⌝ }
 {
     match name {
-        Name::Regional(b, n) => open_structure(names, regions, notes, go, b, n),
-        Name::Local(n) => define_local(cells, notes, go, n),
+        Name::Regional(b, n) => open_structure(names, locals, regions, notes, go, b, n),
+        Name::Local(n) => {
+            let t = define_local(cells, locals, go, n);
+            Got {
+                go: t.go,
+                notes: notes,
+                c: t.c,
+            }
+        }
         Name::Blank => {
             let t = take_cell(cells, go);
             Got {
@@ -313,27 +269,24 @@ pub fn cell_for(
 }
 
 // The cell that a SYMB or LINK names.
-pub fn cell_named(cells: &mut [u64], regions: Regions, notes: Notes, go: u8, f: Field) -> Got
+pub fn cell_named(
+    cells: &mut [u64],
+    locals: &mut Locals,
+    regions: Regions,
+    go: u8,
+    f: Field,
+) -> Taken
     requires { ⌜ Laid regions ⌝ }
-    ensures { λ r. ⌜ OnTable (cellNamed f) regions notes cells go (r .notes) (r .go) (r .c) ⌝ }
+    ensures { λ r. ⌜ OnTable (cellNamed f) regions locals cells go (r .go) (r .c) ⌝ }
 {
     match f {
-        Field::Regional(b, n) => Got {
+        Field::Regional(b, n) => Taken {
             go: go,
-            notes: notes,
             c: regions.cell_of(b, n),
         },
-        Field::Local(n) => mention(cells, notes, go, n),
-        Field::Zero => Got {
-            go: go,
-            notes: notes,
-            c: 0,
-        },
-        Field::Blank => Got {
-            go: go,
-            notes: notes,
-            c: 0,
-        },
+        Field::Local(n) => mention(cells, locals, go, n),
+        Field::Zero => Taken { go: go, c: 0 },
+        Field::Blank => Taken { go: go, c: 0 },
     }
 }
 
@@ -370,7 +323,7 @@ pub fn fill(cells: &mut [u64], notes: Notes, c: u16, x: u64, waits: bool) -> Not
 
 // CR 5: of the start cell, which H1 names: a process is listed; another cell some record has as NAME.
 pub fn can_start(cells: &[u64], names: &[bool]) -> bool
-    ensures { λ r. ⌜ ((rs : List Region) (k : Notes) → r ≡ canStart (bookOf (held rs k (now (cells .entry)) (now (names .entry))))) ⌝ }
+    ensures { λ r. ⌜ ((rs : List Region) (k : Notes) (l : List ℕ) → r ≡ canStart (bookOf (held rs k l (now (cells .entry)) (now (names .entry))))) ⌝ }
 {
     let start = cells::symbol(cells::word_in(cells::peek(cells, limits::H1)));
     let c = start.num;

@@ -1,7 +1,7 @@
 -- The cells before any word, and loops that fill a slice from the front.
 use Rattle.paper.proofs.Kit.{ℕ, suc, _+_, _<_, Bool, false, List, [], _∷_, _≡_, refl, ap, sym, _∙_, subst, arith, ℕ-discrete, length, getD, set, replicate}
 use Rattle.paper.proofs.Kit.{getD-replicate, length-replicate, getD-set-same, getD-set-other, ext-getD}
-use Rattle.paper.specs.Limits.{firstDeck}
+use Rattle.paper.specs.Limits.{firstDeck, manyLocals}
 use Rattle.paper.specs.Cell.{Region, endOfRegions, Cell, word, emptyWord}
 use Rattle.paper.specs.Deck.{freshCell, cellsFrom, fresh, freshBook}
 use Rattle.cells.specs.Layout.{unpackOf}
@@ -9,7 +9,7 @@ use Rattle.cells.specs.Pack.{Packs, AllFormed}
 use Rattle.cells.specs.Bridge.{unpacked}
 use Rattle.book.specs.declared.Notes.{Notes}
 use Rattle.book.specs.Kept.{held, bookOf, noNotes}
-use Rattle.book.proofs.StepLaws.{no-locals}
+use Rattle.book.proofs.KeptLaws.{local-none}
 
 pub packs-as : {r : ℕ} {x y : Cell} → x ≡ y → Packs r y → Packs r x
 packs-as {r} e p = subst (λ (z : Cell). Packs r z) (sym e) p
@@ -56,8 +56,9 @@ laid f s n e h = (laid-cells f s 0 each ∙ ap (λ (k : ℕ). cellsFrom f k 0) e
     each j b = let z : 0 + j ≡ j = omega arith in rw z (h j (omega arith))
 
 -- the book before any word
-pub begun : (rs : List Region) (k : Notes) (s : List ℕ) (m m′ : List Bool) (n e : ℕ) → e ≡ endOfRegions rs firstDeck
+pub begun : (rs : List Region) (k : Notes) (l s : List ℕ) (m m′ : List Bool) (n e : ℕ) → e ≡ endOfRegions rs firstDeck
     → unpacked s ≡ cellsFrom (freshCell n e) n 0
-    → m′ ≡ replicate (length m) false → length m ≡ n → k ≡ noNotes → bookOf (held rs k s m′) ≡ freshBook n rs
+    → m′ ≡ replicate (length m) false → length m ≡ n → l ≡ replicate manyLocals 0 → k ≡ noNotes
+    → bookOf (held rs k l s m′) ≡ freshBook n rs
 unfolding fresh
-begun rs k s m m′ n e end cells marks size notes = rw (notes, no-locals, cells, end, marks, size)
+begun rs k l s m m′ n e end cells marks size locals notes = rw (notes, locals, local-none manyLocals, cells, end, marks, size)

@@ -35,20 +35,20 @@ use Rattle.deck.proofs.ReadLaws.{Reached, at-start, ran-out, broke, las
 use Rattle.deck.proofs.ReadLaws.{is-refused}
 
 -- at the head of the loop, of n cells: no refusal yet; `last`: the start has come, in the record at `from`, and reading ends here
-pub record Stands (deck : List ℕ) (n : ℕ) (s : List ℕ) (m : List Bool) (r : Regions) (k : Notes) (go : ℕ) (last : Bool) (from at : ℕ) : Type 0 where
+pub record Stands (deck : List ℕ) (n : ℕ) (l s : List ℕ) (m : List Bool) (r : Regions) (k : Notes) (go : ℕ) (last : Bool) (from at : ℕ) : Type 0 where
   pub made : Made r
   pub cells : length s ≡ n
   pub marks : length m ≡ n
   pub formed : AllFormed s
   pub so-far : go ≡ 0
   pub within : at ≤ length deck
-  pub reached : last ≡ false → Reached n deck at (bookOf (held (regionsOf r) k s m))
-  pub over : last ≡ true → records n (suc (length deck)) 0 deck (freshBook n []) ≡ closing from at (drop at deck) (bookOf (held (regionsOf r) k s m))
+  pub reached : last ≡ false → Reached n deck at (bookOf (held (regionsOf r) k l s m))
+  pub over : last ≡ true → records n (suc (length deck)) 0 deck (freshBook n []) ≡ closing from at (drop at deck) (bookOf (held (regionsOf r) k l s m))
 
-pub stands-first : (deck : List ℕ) (n : ℕ) {s : List ℕ} {m : List Bool} {r : Regions} {k : Notes} → r ≡ noRegions → length s ≡ n
-    → length m ≡ length s → bookOf (held (regionsOf r) k s m) ≡ freshBook n (regionsOf r) → AllFormed s
-    → Stands deck (length s) s m r k 0 false 0 0
-stands-first deck n {s} {m} {r} {k} e ls lm b f =
+pub stands-first : (deck : List ℕ) (n : ℕ) {l s : List ℕ} {m : List Bool} {r : Regions} {k : Notes} → r ≡ noRegions → length s ≡ n
+    → length m ≡ length s → bookOf (held (regionsOf r) k l s m) ≡ freshBook n (regionsOf r) → AllFormed s
+    → Stands deck (length s) l s m r k 0 false 0 0
+stands-first deck n {l} {s} {m} {r} {k} e ls lm b f =
     record {
       made = subst Made (sym e) made-none;
       cells = refl;
@@ -83,7 +83,7 @@ verdict go whole b = completed (completed (toldFault go) NotEnded (not whole)) H
 
 -- whether a run can begin, by the cells and the names
 abbrev pub Begins : List ℕ → List Bool → Bool → Type 0
-Begins s m b = (rs : List PaperRegion) (k : Notes) → b ≡ canStart (bookOf (held rs k s m))
+Begins s m b = (rs : List PaperRegion) (k : Notes) (l : List ℕ) → b ≡ canStart (bookOf (held rs k l s m))
 
 -- behind the loop: what the records come to, by the verdict
 pub record Leaves (deck : List ℕ) (n : ℕ) (s : List ℕ) (m : List Bool) (r : Regions) (go : ℕ) (last : Bool) (from at : ℕ) : Type 0 where
@@ -155,10 +155,10 @@ at-hand at n last h = go (ltb at n) last refl refl h
     go true true e f g = clash cc
     go false l e f g = clash cc
 
-module _ {deck : List ℕ} {n : ℕ} {s : List ℕ} {m : List Bool} {r : Regions} {k : Notes} {go : ℕ} {last : Bool} {from at : ℕ}
-    (w : Stands deck n s m r k go last from at) where
+module _ {deck : List ℕ} {n : ℕ} {l s : List ℕ} {m : List Bool} {r : Regions} {k : Notes} {go : ℕ} {last : Bool} {from at : ℕ}
+    (w : Stands deck n l s m r k go last from at) where
   abbrev here : Book
-  here = bookOf (held (regionsOf r) k s m)
+  here = bookOf (held (regionsOf r) k l s m)
 
   abbrev Out : Option Fault → ℕ → List ℕ → Type 0
   Out j o t = ending n (records n (suc (length deck)) 0 deck (freshBook n [])) ≡ outcomeOf n j o r t
@@ -180,12 +180,12 @@ module _ {deck : List ℕ} {n : ℕ} {s : List ℕ} {m : List Bool} {r : Regions
       begun true = refl
       begun false = refl
 
-      by-last : (b : Bool) → Begins s m b → (l : Bool) → last ≡ l → (ltb at (length deck) && not l) ≡ false → Out (verdict go entire b) (cond entire from at) s
+      by-last : (b : Bool) → Begins s m b → (y : Bool) → last ≡ y → (ltb at (length deck) && not y) ≡ false → Out (verdict go entire b) (cond entire from at) s
       by-last b g true e h = closes (ℕ-discrete at (length deck))
         where
           closes : Dec (at ≡ length deck) → Out (verdict go entire b) (cond entire from at) s
           closes (yes p) = shown b true (rw (e, eq-eqb at (length deck) p))
-              (ap (ending n) (w .over e ∙ closed n deck from at here (omega arith) ∙ ap (λ (x : Bool). cond x (complete here) (broken Hopeless from)) (sym (g _ k)))
+              (ap (ending n) (w .over e ∙ closed n deck from at here (omega arith) ∙ ap (λ (x : Bool). cond x (complete here) (broken Hopeless from)) (sym (g _ k l)))
               ∙ begun b)
           closes (no p) = shown b false (rw (e, ne-eqb at (length deck) p)) (ap (ending n) (w .over e ∙ not-closed n deck from at here (omega (arith, w .within))))
       by-last b g false e h = shown b false (rw e) (ap (ending n) (ran-out n deck (w .reached e) (ltb-false _ _ (first (ltb at (length deck)) h))))
@@ -230,17 +230,17 @@ module _ {deck : List ℕ} {n : ℕ} {s : List ℕ} {m : List Bool} {r : Regions
         }
 
     -- the record was placed or refused
-    module _ {s′ : List ℕ} {m′ : List Bool} {t : Placed} (d : PlacesIn (loadOne (length s) (byteAt rec 0) rec) r k s m s′ m′ t) where
+    module _ {l′ s′ : List ℕ} {m′ : List Bool} {t : Placed} (d : PlacesIn (loadOne (length s) (byteAt rec 0) rec) r k l s m l′ s′ m′ t) where
       abbrev there : Book
-      there = bookOf (held (regionsOf (t .regions)) (t .notes) s′ m′)
+      there = bookOf (held (regionsOf (t .regions)) (t .notes) l′ s′ m′)
 
       did : (j : Option Fault) → toldFault (t .go) ≡ j
-          → Follows loading Always 0 (loadOne n (byteAt rec 0) rec) (held (regionsOf r) k s m) none
-          (held (regionsOf (t .regions)) (t .notes) s′ m′) j (t .last)
+          → Follows loading Always 0 (loadOne n (byteAt rec 0) rec) (held (regionsOf r) k l s m) none
+          (held (regionsOf (t .regions)) (t .notes) l′ s′ m′) j (t .last)
       did j q =
           subst
-          (λ (x : ℕ × Option Fault × Option Fault). Follows loading Always 0 (loadOne (x .0) (byteAt rec 0) rec) (held (regionsOf r) k s m) (x .1)
-          (held (regionsOf (t .regions)) (t .notes) s′ m′) (x .2) (t .last)) (λ i. (w .cells i, told-fine 0 refl i, q i)) (d .did)
+          (λ (x : ℕ × Option Fault × Option Fault). Follows loading Always 0 (loadOne (x .0) (byteAt rec 0) rec) (held (regionsOf r) k l s m) (x .1)
+          (held (regionsOf (t .regions)) (t .notes) l′ s′ m′) (x .2) (t .last)) (λ i. (w .cells i, told-fine 0 refl i, q i)) (d .did)
 
       pub leaves-refused : (t .go ≡ 0 → ⊥) → length s′ ≡ length s → length m′ ≡ length m → Leaves deck n s′ m′ r (t .go) last at at
       leaves-refused z ls lm =
@@ -260,8 +260,8 @@ module _ {deck : List ℕ} {n : ℕ} {s : List ℕ} {m : List Bool} {r : Regions
         pub reads-on : at + size ≤ length deck
         reads-on = omega (arith, was .1, ap length part, length-drop at deck, left-over .0, e)
 
-        loaded : (l : Bool) → t .last ≡ l → loadOne n (byteAt (drop at deck) 0) (drop at deck) here ≡ done l there
-        loaded l p = in-deck (done l there) (is-done (did none (told-fine (t .go) fine)) ∙ ap (λ (y : Bool). done y there) p)
+        loaded : (x : Bool) → t .last ≡ x → loadOne n (byteAt (drop at deck) 0) (drop at deck) here ≡ done x there
+        loaded x p = in-deck (done x there) (is-done (did none (told-fine (t .go) fine)) ∙ ap (λ (y : Bool). done y there) p)
 
         size-is : size ≡ sizeOf (byteAt (drop at deck) 0)
         size-is = e ∙ ap (λ (y : List ℕ). sizeOf (byteAt y 0)) part
@@ -272,7 +272,7 @@ module _ {deck : List ℕ} {n : ℕ} {s : List ℕ} {m : List Bool} {r : Regions
         pub further : at < at + size
         further = omega (arith, some-read)
 
-        pub goes-round : length s′ ≡ length s → length m′ ≡ length m → Stands deck n s′ m′ (t .regions) (t .notes) (t .go) (t .last) at (at + size)
+        pub goes-round : length s′ ≡ length s → length m′ ≡ length m → Stands deck n l′ s′ m′ (t .regions) (t .notes) (t .go) (t .last) at (at + size)
         goes-round ls lm =
             record {
               made = d .made;
@@ -281,8 +281,8 @@ module _ {deck : List ℕ} {n : ℕ} {s : List ℕ} {m : List Bool} {r : Regions
               formed = d .did .kept (w .formed);
               so-far = fine;
               within = reads-on;
-              reached = λ l. subst (λ (x : ℕ). Reached n deck (at + x) there) (sym size-is)
-                  (next-one n deck (w .reached (left-over .1)) (left-over .0) (loaded false l) (λ y. some-read (size-is ∙ y)));
-              over = λ l. last-one n deck (w .reached (left-over .1)) (left-over .0) (loaded true l)
+              reached = λ q. subst (λ (x : ℕ). Reached n deck (at + x) there) (sym size-is)
+                  (next-one n deck (w .reached (left-over .1)) (left-over .0) (loaded false q) (λ y. some-read (size-is ∙ y)));
+              over = λ q. last-one n deck (w .reached (left-over .1)) (left-over .0) (loaded true q)
                   ∙ ap (λ (x : ℕ). closing at (at + x) (drop (at + x) deck) there) (sym size-is);
             }

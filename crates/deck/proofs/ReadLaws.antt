@@ -30,8 +30,8 @@ module _ {A : Type 0} {M : Load A} {h h′ : Held} {v : A} where
   is-refused f d = d .is tt tt .is
 
 -- a record that is refused
-pub stops : (n : ℕ) {M : Load Bool} {t : Regions} {k : Notes} {s : List ℕ} {m : List Bool} → 0 < n
-    → M (bookOf (held (regionsOf t) k s m)) ≡ refused (faultBy n) → Made t → PlacesIn M t k s m s m (stopped t k n)
+pub stops : (n : ℕ) {M : Load Bool} {t : Regions} {k : Notes} {l s : List ℕ} {m : List Bool} → 0 < n
+    → M (bookOf (held (regionsOf t) k l s m)) ≡ refused (faultBy n) → Made t → PlacesIn M t k l s m l s m (stopped t k n)
 stops n g e h = record { did = record { is = λ _ _. to-stop (faultBy n) (told-fine 0 refl) (told-fault n g) e; kept = λ f. f }; made = h }
 
 -- one record: 3, 2, and the rest
@@ -67,8 +67,8 @@ module _ (size kind : ℕ) (r : List ℕ) (b : Book) where
       go false f = ltb-false _ _ f
 
 -- what is whole comes to what its record comes to
-pub placed-whole : (size kind : ℕ) (r : List ℕ) {t : Regions} {k : Notes} {s s′ : List ℕ} {m m′ : List Bool} {x : Placed} → (sizeOf kind ≡ 0 → ⊥)
-    → sizeOf kind ≤ length r → PlacesIn (oneParsed size (recordAt r)) t k s m s′ m′ x → PlacesIn (loadOne size kind r) t k s m s′ m′ x
+pub placed-whole : (size kind : ℕ) (r : List ℕ) {t : Regions} {k : Notes} {l l′ s s′ : List ℕ} {m m′ : List Bool} {x : Placed} → (sizeOf kind ≡ 0 → ⊥)
+    → sizeOf kind ≤ length r → PlacesIn (oneParsed size (recordAt r)) t k l s m l′ s′ m′ x → PlacesIn (loadOne size kind r) t k l s m l′ s′ m′ x
 placed-whole size kind r n h d = record { did = alike-here (λ _ _. whole size kind r _ n h) (d .did); made = d .made }
 
 pub not-written : (size : ℕ) (o : Option _) (b : Book) → o ≡ none → oneParsed size o b ≡ refused BadField

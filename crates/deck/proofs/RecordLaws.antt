@@ -18,20 +18,20 @@ use Rattle.regions.specs.declared.Regions.{Regions}
 use Rattle.regions.specs.Table.{regionsOf}
 
 -- H5 and H1 are filled
-pub starts : (c x y : ℕ) {rs : List Region} {k : Notes} {s s₁ s₂ : List ℕ} {m : List Bool} {a : Option Fault} → s₁ ≡ set s 6 x → s₂ ≡ set s₁ 2 y
+pub starts : (c x y : ℕ) {rs : List Region} {k : Notes} {l s s₁ s₂ : List ℕ} {m : List Bool} {a : Option Fault} → s₁ ≡ set s 6 x → s₂ ≡ set s₁ 2 y
     → Packs x (word (mkWord 0 0 25 0)) → Packs y (word (mkWord 0 0 c 0))
     → Follows loading Always 0 (becomes (λ b. withCells b (set (set (b .cells) (H 5) (word (mkWord 0 0 (J 4) 0))) (H 1) (word (mkWord 0 0 c 0)))))
-    (held rs k s m) a (held rs k s₂ m) a tt
-starts c x y {rs} {k} {s} {s₁} {s₂} {m} e f p q =
-    changes _ (held rs k s m) (held rs k s₂ m)
-    (ap (λ (cs : List Cell). withCells (bookOf (held rs k s m)) cs) (rw (f, unpacked-set s₁ 2 y, e, unpacked-set s 6 x, p .unpacks, q .unpacks)))
+    (held rs k l s m) a (held rs k l s₂ m) a tt
+starts c x y {rs} {k} {l} {s} {s₁} {s₂} {m} e f p q =
+    changes _ (held rs k l s m) (held rs k l s₂ m)
+    (ap (λ (cs : List Cell). withCells (bookOf (held rs k l s m)) cs) (rw (f, unpacked-set s₁ 2 y, e, unpacked-set s 6 x, p .unpacks, q .unpacks)))
     (λ h. rw (f, e) (formed-set (set s 6 x) 2 y (q .formed) (formed-set s 6 x (p .formed) h)))
 
 -- the cells are laid anew, with one region more
-pub lays : (size : ℕ) (x : Region) {rs : List Region} {k k′ : Notes} {s s′ : List ℕ} {m m′ : List Bool} {a : Option Fault} (rs′ : List Region)
-    → rs′ ≡ rs ++ (x ∷ []) → bookOf (held rs′ k′ s′ m′) ≡ freshBook size rs′ → AllFormed s′
-    → Follows loading Always 0 (becomes (λ b. freshBook size (b .regions ++ (x ∷ [])))) (held rs k s m) a (held rs′ k′ s′ m′) a tt
-lays size x {rs} {k} {k′} {s} {s′} {m} {m′} rs′ e b f = changes _ (held rs k s m) (held rs′ k′ s′ m′) (ap (freshBook size) (sym e) ∙ sym b) (λ _. f)
+pub lays : (size : ℕ) (x : Region) {rs : List Region} {k k′ : Notes} {l l′ s s′ : List ℕ} {m m′ : List Bool} {a : Option Fault} (rs′ : List Region)
+    → rs′ ≡ rs ++ (x ∷ []) → bookOf (held rs′ k′ l′ s′ m′) ≡ freshBook size rs′ → AllFormed s′
+    → Follows loading Always 0 (becomes (λ b. freshBook size (b .regions ++ (x ∷ [])))) (held rs k l s m) a (held rs′ k′ l′ s′ m′) a tt
+lays size x {rs} {k} {k′} {l} {l′} {s} {s′} {m} {m′} rs′ e b f = changes _ (held rs k l s m) (held rs′ k′ l′ s′ m′) (ap (freshBook size) (sym e) ∙ sym b) (λ _. f)
 
 -- none of three
 pub none-holds : (a b c : Bool) → (a || b || c) ≡ false → (a ≡ false) × (b ≡ false) × (c ≡ false)
@@ -46,8 +46,8 @@ or-stops true y f e d = test (judged-yes true f refl refl refl) (undone f refl)
 or-stops false y f e d = test (judged-no false f refl) (d e)
 
 -- a record that is not the start
-pub placed : {M : Load (Unit {0})} {t : Regions} {k : Notes} {s s′ : List ℕ} {m m′ : List Bool} {r : Placed} → r .last ≡ false → Made (r .regions)
-    → Booked M (held (regionsOf t) k s m) 0 (held (regionsOf (r .regions)) (r .notes) s′ m′) (r .go) tt → PlacesIn (ordinary M) t k s m s′ m′ r
+pub placed : {M : Load (Unit {0})} {t : Regions} {k : Notes} {l l′ s s′ : List ℕ} {m m′ : List Bool} {r : Placed} → r .last ≡ false → Made (r .regions)
+    → Booked M (held (regionsOf t) k l s m) 0 (held (regionsOf (r .regions)) (r .notes) l′ s′ m′) (r .go) tt → PlacesIn (ordinary M) t k l s m l′ s′ m′ r
 unfolding ordinary
 placed l h d = record { did = then d (give-as (sym l)); made = h }
 
@@ -67,17 +67,17 @@ after-it M N v b = go (M b)
     go (done a t) = refl
     go (refused f) = refl
 
-pub tested-too : (M : Load (Unit {0})) {N : Load (Unit {0})} {t : Regions} {k : Notes} {s s′ : List ℕ} {m m′ : List Bool} {r : Placed} (go : ℕ) → PlacesIn (ordinary M) t k s m s′ m′ r
-    → Told Always N (r .go) go → PlacesIn (ordinary (M >> N)) t k s m s′ m′ (record { go = go; last = r .last; notes = r .notes; regions = r .regions })
+pub tested-too : (M : Load (Unit {0})) {N : Load (Unit {0})} {t : Regions} {k : Notes} {l l′ s s′ : List ℕ} {m m′ : List Bool} {r : Placed} (go : ℕ) → PlacesIn (ordinary M) t k l s m l′ s′ m′ r
+    → Told Always N (r .go) go → PlacesIn (ordinary (M >> N)) t k l s m l′ s′ m′ (record { go = go; last = r .last; notes = r .notes; regions = r .regions })
 unfolding ordinary
 tested-too M {N} go d q = record { did = alike-here (λ _ _. after-it M N false _) (bind (λ l. N >> ret l) (d .did) (test q give)); made = d .made }
 
 -- a record by the case of x, which is known to be y
-pub placed-as : {A : Type 0} (M : A → Load Bool) {x y : A} {t : Regions} {k : Notes} {s s′ : List ℕ} {m m′ : List Bool} {r : Placed} → x ≡ y
-    → PlacesIn (M y) t k s m s′ m′ r → PlacesIn (M x) t k s m s′ m′ r
-placed-as {A} M {t = t} {k = k} {s = s} {s′ = s′} {m = m} {m′ = m′} {r = r} p d = subst (λ (z : A). PlacesIn (M z) t k s m s′ m′ r) (sym p) d
+pub placed-as : {A : Type 0} (M : A → Load Bool) {x y : A} {t : Regions} {k : Notes} {l l′ s s′ : List ℕ} {m m′ : List Bool} {r : Placed} → x ≡ y
+    → PlacesIn (M y) t k l s m l′ s′ m′ r → PlacesIn (M x) t k l s m l′ s′ m′ r
+placed-as {A} M {t = t} {k = k} {l = l} {l′ = l′} {s = s} {s′ = s′} {m = m} {m′ = m′} {r = r} p d = subst (λ (z : A). PlacesIn (M z) t k l s m l′ s′ m′ r) (sym p) d
 
 -- an answer that is known
-pub placed-to : {M : Load Bool} {t : Regions} {k : Notes} {s s′ : List ℕ} {m m′ : List Bool} {x y : Placed} → x ≡ y → PlacesIn M t k s m s′ m′ y
-    → PlacesIn M t k s m s′ m′ x
-placed-to {M} {t} {k} {s} {s′} {m} {m′} p d = subst (λ (z : Placed). PlacesIn M t k s m s′ m′ z) (sym p) d
+pub placed-to : {M : Load Bool} {t : Regions} {k : Notes} {l l′ s s′ : List ℕ} {m m′ : List Bool} {x y : Placed} → x ≡ y → PlacesIn M t k l s m l′ s′ m′ y
+    → PlacesIn M t k l s m l′ s′ m′ x
+placed-to {M} {t} {k} {l} {l′} {s} {s′} {m} {m′} p d = subst (λ (z : Placed). PlacesIn M t k l s m l′ s′ m′ z) (sym p) d

@@ -77,12 +77,13 @@ pub record Made (r : Regions) : Type 0 where
   pub made : r ≡ tableOf (regionsOf r)
 
 -- what a record comes to: the block's result, and a table to go on with
-pub record PlacesIn (M : Load Bool) (t : Regions) (k : Notes) (s : List ℕ) (m : List Bool) (s′ : List ℕ) (m′ : List Bool) (r : Placed) : Type 0 where
-  pub did : Booked M (held (regionsOf t) k s m) 0 (held (regionsOf (r .regions)) (r .notes) s′ m′) (r .go) (r .last)
+pub record PlacesIn (M : Load Bool) (t : Regions) (k : Notes) (l s : List ℕ) (m : List Bool) (l′ s′ : List ℕ) (m′ : List Bool) (r : Placed) : Type 0 where
+  pub did : Booked M (held (regionsOf t) k l s m) 0 (held (regionsOf (r .regions)) (r .notes) l′ s′ m′) (r .go) (r .last)
   pub made : Made (r .regions)
 
-abbrev pub Places : Load Bool → Regions → Notes → LentCells → LentNames → Placed → Type 0
-Places M t k cells names r = PlacesIn M t k (now (cells .entry)) (now (names .entry)) (now (cells .exit)) (now (names .exit)) r
+abbrev pub Places : Load Bool → Regions → Notes → LentCells → LentCells → LentNames → Placed → Type 0
+Places M t k locals cells names r =
+    PlacesIn M t k (now (locals .entry)) (now (cells .entry)) (now (names .entry)) (now (locals .exit)) (now (cells .exit)) (now (names .exit)) r
 
 -- cells in range, and a mark for each
 pub record Sized (s : List ℕ) (m : List Bool) : Type 0 where

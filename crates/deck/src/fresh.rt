@@ -10,6 +10,7 @@ ghost use Rattle.cells.specs.Bridge.{unpacked};
 ghost use Rattle.regions.specs.Table.{regionsOf};
 ghost use Rattle.book.specs.Kept.{held, bookOf};
 ghost use Rattle.deck.specs.Load.{Sized};
+use book::Locals;
 use book::Notes;
 use paper::Symbol;
 use paper::limits;
@@ -86,13 +87,19 @@ fn unmark(names: &mut [bool])
 }
 
 // The book before any word.
-pub(crate) fn begin(cells: &mut [u64], names: &mut [bool], regions: Regions) -> Notes
+pub(crate) fn begin(
+    cells: &mut [u64],
+    names: &mut [bool],
+    locals: &mut Locals,
+    regions: Regions,
+) -> Notes
     requires { ⌜ Sized (now cells) (now names) ⌝ }
-    ensures { λ r. ⌜ (bookOf (held (regionsOf regions) r (now (cells .exit)) (now (names .exit)))
+    ensures { λ r. ⌜ (bookOf (held (regionsOf regions) r (now (locals .exit)) (now (cells .exit)) (now (names .exit)))
         ≡ freshBook (length (now (cells .entry))) (regionsOf regions)) × AllFormed (now (cells .exit)) ⌝ }
 {
     lay(cells, regions.top());
     unmark(names);
+    book::forget(locals);
     Notes::none()
 }
 

@@ -8,12 +8,13 @@ ghost use Rattle.paper.specs.Deck.{loadWord, loadRoutine, loadInteger, loadRegi
 ghost use Rattle.cells.specs.Layout.{valueOf};
 ghost use Rattle.regions.specs.Table.{Laid};
 ghost use Rattle.records.specs.Symbols.{nameOf, recordOf, parsedOf, symbolsAt, Written};
-ghost use Rattle.book.specs.Booked.{OnTable};
+ghost use Rattle.book.specs.Booked.{OnKept};
 ghost use Rattle.deck.specs.Load.{Loads, Made, Places, Sized, Lettered, AllLettered, Ends};
 ghost use Rattle.deck.specs.Load.{ordinary, oneRecord, oneParsed, stopped};
 
 mod fresh;
 
+use book::Locals;
 use book::Notes;
 use fresh::begin;
 use fresh::zero;
@@ -58,25 +59,24 @@ pub struct Loaded {
 fn load_word(
     cells: &mut [u64],
     names: &mut [bool],
+    locals: &mut Locals,
     regions: Regions,
     notes: Notes,
     name: Name,
     w: Entry,
 ) -> Placed
     requires { ⌜ Made regions ⌝ }
-    ensures { λ r. ⌜ Places (ordinary (loadWord (nameOf name) (w .p) (w .q) (w .symb) (w .link))) regions notes cells names r ⌝ }
+    ensures { λ r. ⌜ Places (ordinary (loadWord (nameOf name) (w .p) (w .q) (w .symb) (w .link))) regions notes locals cells names r ⌝ }
 {
     let symb = w.symb;
     let link = w.link;
-    let go = book::name_fits(names, regions, notes, 0, true, name);
+    let go = book::name_fits(names, locals, regions, notes, 0, true, name);
     let go = book::known(regions, go, symb);
     let go = book::known(regions, go, link);
-    let n = book::cell_for(cells, names, regions, notes, go, name);
+    let n = book::cell_for(cells, names, locals, regions, notes, go, name);
+    let s = book::cell_named(cells, locals, regions, n.go, symb);
+    let l = book::cell_named(cells, locals, regions, s.go, link);
     let notes = n.notes;
-    let s = book::cell_named(cells, regions, notes, n.go, symb);
-    let notes = s.notes;
-    let l = book::cell_named(cells, regions, notes, s.go, link);
-    let notes = l.notes;
     let x = cells::of_fields(w.p, w.q, s.c, l.c);
     Placed {
         go: l.go,
@@ -90,17 +90,18 @@ fn load_word(
 fn load_routine(
     cells: &mut [u64],
     names: &mut [bool],
+    locals: &mut Locals,
     regions: Regions,
     notes: Notes,
     name: Name,
     w: Entry,
 ) -> Placed
     requires { ⌜ Made regions ⌝ }
-    ensures { λ r. ⌜ Places (ordinary (loadRoutine (nameOf name) (w .p) (w .q) (w .symb) (w .link))) regions notes cells names r ⌝ }
+    ensures { λ r. ⌜ Places (ordinary (loadRoutine (nameOf name) (w .p) (w .q) (w .symb) (w .link))) regions notes locals cells names r ⌝ }
 {
     let symb = w.symb;
     let hopeless = (w.p == 0) & (w.q == 0) & book::is_missing(symb);
-    let mut t = load_word(cells, names, regions, notes, name, w);
+    let mut t = load_word(cells, names, locals, regions, notes, name, w);
     t.go = book::refuse_if(t.go, hopeless, 11);
     t
 }
@@ -109,16 +110,17 @@ fn load_routine(
 fn load_integer(
     cells: &mut [u64],
     names: &mut [bool],
+    locals: &mut Locals,
     regions: Regions,
     notes: Notes,
     name: Name,
     v: u32,
 ) -> Placed
     requires { ⌜ Made regions ⌝ }
-    ensures { λ r. ⌜ Places (ordinary (loadInteger (nameOf name) (valueOf v))) regions notes cells names r ⌝ }
+    ensures { λ r. ⌜ Places (ordinary (loadInteger (nameOf name) (valueOf v))) regions notes locals cells names r ⌝ }
 {
-    let go = book::name_fits(names, regions, notes, 0, false, name);
-    let n = book::cell_for(cells, names, regions, notes, go, name);
+    let go = book::name_fits(names, locals, regions, notes, 0, false, name);
+    let n = book::cell_for(cells, names, locals, regions, notes, go, name);
     let notes = n.notes;
     Placed {
         go: n.go,
@@ -129,13 +131,20 @@ fn load_integer(
 }
 
 // Kind 5: "After loading H5 holds J4, H1 the start cell".
-fn load_start(cells: &mut [u64], regions: Regions, notes: Notes, b: u8, n: u16) -> u8
+fn load_start(
+    cells: &mut [u64],
+    locals: &Locals,
+    regions: Regions,
+    notes: Notes,
+    b: u8,
+    n: u16,
+) -> u8
     requires { ⌜ Laid regions ⌝ }
-    ensures { λ r. ⌜ OnTable (loadStart b n) regions notes cells 0 notes r tt ⌝ }
+    ensures { λ r. ⌜ OnKept (loadStart b n) regions notes (now (locals .entry)) cells 0 r tt ⌝ }
 {
     let go = book::refuse_if(0, notes.waiting != 0, 6);
     let go = book::known(regions, go, Field::Regional(b, n));
-    let go = book::closes(notes, go);
+    let go = book::closes(locals, go);
     let c = regions.cell_of(b, n);
     book::put(cells, limits::H5, cells::of_fields(0, 0, limits::J4, 0));
     book::put(cells, limits::H1, cells::of_fields(0, 0, c, 0));
@@ -158,13 +167,14 @@ fn stopped(regions: Regions, notes: Notes, number: u8) -> Placed
 fn load_region(
     cells: &mut [u64],
     names: &mut [bool],
+    locals: &mut Locals,
     regions: Regions,
     notes: Notes,
     b: u8,
     n: u16,
 ) -> Placed
     requires { ⌜ Made regions × Sized (now cells) (now names) × (isLetter b ≡ true) ⌝ }
-    ensures { λ r. ⌜ Places (ordinary (loadRegion (length (now (cells .entry))) b n)) regions notes cells names r ⌝ }
+    ensures { λ r. ⌜ Places (ordinary (loadRegion (length (now (cells .entry))) b n)) regions notes locals cells names r ⌝ }
 {
     let full = cells.len() < regions.top() + (n as usize);
     if regions.letter_taken(b, 0) | notes.words | full {
@@ -174,7 +184,7 @@ fn load_region(
     Placed {
         go: 0,
         last: false,
-        notes: begin(cells, names, more),
+        notes: begin(cells, names, locals, more),
         regions: more,
     }
 }
@@ -182,15 +192,16 @@ fn load_region(
 fn load_record(
     cells: &mut [u64],
     names: &mut [bool],
+    locals: &mut Locals,
     regions: Regions,
     notes: Notes,
     x: Record,
 ) -> Placed
     requires { ⌜ Made regions × Sized (now cells) (now names) × Lettered x ⌝ }
-    ensures { λ r. ⌜ Places (oneRecord (length (now (cells .entry))) (recordOf x)) regions notes cells names r ⌝ }
+    ensures { λ r. ⌜ Places (oneRecord (length (now (cells .entry))) (recordOf x)) regions notes locals cells names r ⌝ }
 {
     match x {
-        Record::Region(b, n) => load_region(cells, names, regions, notes, b, n),
+        Record::Region(b, n) => load_region(cells, names, locals, regions, notes, b, n),
         Record::Routine(name, p, q, symb, link) => {
             let w = Entry {
                 p: p,
@@ -198,7 +209,7 @@ fn load_record(
                 symb: symb,
                 link: link,
             };
-            load_routine(cells, names, regions, notes, name, w)
+            load_routine(cells, names, locals, regions, notes, name, w)
         }
         Record::Datum(name, symb, link) => {
             let w = Entry {
@@ -207,11 +218,11 @@ fn load_record(
                 symb: symb,
                 link: link,
             };
-            load_word(cells, names, regions, notes, name, w)
+            load_word(cells, names, locals, regions, notes, name, w)
         }
-        Record::Number(name, v) => load_integer(cells, names, regions, notes, name, v),
+        Record::Number(name, v) => load_integer(cells, names, locals, regions, notes, name, v),
         Record::Start(b, n) => Placed {
-            go: load_start(cells, regions, notes, b, n),
+            go: load_start(cells, locals, regions, notes, b, n),
             last: true,
             notes: notes,
             regions: regions,
@@ -222,16 +233,17 @@ fn load_record(
 fn load_parsed(
     cells: &mut [u64],
     names: &mut [bool],
+    locals: &mut Locals,
     regions: Regions,
     notes: Notes,
     x: Parsed,
 ) -> Placed
     requires { ⌜ Made regions × Sized (now cells) (now names) × AllLettered x ⌝ }
-    ensures { λ r. ⌜ Places (oneParsed (length (now (cells .entry))) (parsedOf x)) regions notes cells names r ⌝ }
+    ensures { λ r. ⌜ Places (oneParsed (length (now (cells .entry))) (parsedOf x)) regions notes locals cells names r ⌝ }
 {
     match x {
         Parsed::Nothing => stopped(regions, notes, 4),
-        Parsed::Is(y) => load_record(cells, names, regions, notes, y),
+        Parsed::Is(y) => load_record(cells, names, locals, regions, notes, y),
     }
 }
 
@@ -239,6 +251,7 @@ fn load_parsed(
 fn load_one(
     cells: &mut [u64],
     names: &mut [bool],
+    locals: &mut Locals,
     regions: Regions,
     notes: Notes,
     r: &[u8],
@@ -246,7 +259,7 @@ fn load_one(
     symbols: [Field; 3],
 ) -> Placed
     requires { ⌜ Made regions × Sized (now cells) (now names) × (kind ≡ byteAt (now r) 0) × Written kind (now r) symbols (symbolsAt (now r)) ⌝ }
-    ensures { λ x. ⌜ Places (loadOne (length (now (cells .entry))) kind (now (r .entry))) regions notes cells names x ⌝ }
+    ensures { λ x. ⌜ Places (loadOne (length (now (cells .entry))) kind (now (r .entry))) regions notes locals cells names x ⌝ }
 {
     let size = records::size_of(kind);
     if size == 0 {
@@ -258,6 +271,7 @@ fn load_one(
     load_parsed(
         cells,
         names,
+        locals,
         regions,
         notes,
         records::parse(r, kind, symbols),
@@ -272,12 +286,12 @@ fn offset(whole: bool, from: usize, at: usize) -> usize
 }
 
 // One record after another, its symbols first; left at the first refusal. Then 9, "no kind 5, or bytes after it", and 11, of the start.
-fn load_records(deck: &[u8], cells: &mut [u64], names: &mut [bool]) -> Ended
+fn load_records(deck: &[u8], cells: &mut [u64], names: &mut [bool], locals: &mut Locals) -> Ended
     requires { ⌜ Sized (now cells) (now names) ⌝ }
     ensures { λ r. ⌜ Ends (now (deck .entry)) (now (cells .entry)) (now (cells .exit)) r ⌝ }
 {
     let mut regions = Regions::none();
-    let mut notes = begin(cells, names, regions);
+    let mut notes = begin(cells, names, locals, regions);
     let mut go = 0;
     let mut last = false;
     let mut from = 0;
@@ -297,7 +311,7 @@ fn load_records(deck: &[u8], cells: &mut [u64], names: &mut [bool]) -> Ended
             symbols[i] = f;
             i += 1;
         }
-        let t = load_one(cells, names, regions, notes, r, kind, symbols);
+        let t = load_one(cells, names, locals, regions, notes, r, kind, symbols);
         go = t.go;
         if go != 0 {
             break 'deck;
@@ -328,7 +342,8 @@ pub fn load(deck: &[u8], cells: &mut [u64]) -> Loaded
         };
     }
     let mut names = [false; limits::LARGEST_N];
-    let r = load_records(deck, cells, &mut names[..n]);
+    let mut locals = [0; limits::MANY_LOCALS];
+    let r = load_records(deck, cells, &mut names[..n], &mut locals);
     if r.go == 0 {
         let regions = r.regions;
         return Loaded {

@@ -19,12 +19,12 @@ sub-is-listed c = from-J _ (c .if1 .taken)
 returns : tie.Need-returns
 returns c =
     let c₁ = c .before in
-    λ rs k. c .is-listed .ensures ∙ of-process _ _ _ (start-is (c₁ .before)) rs k (c₁ .if1 .taken)
+    λ rs k l. c .is-listed .ensures ∙ of-process _ _ _ (start-is (c₁ .before)) rs k l (c₁ .if1 .taken)
 
 returns-2 : tie.Need-returns-2
 returns-2 c =
     let c₁ = c .before in
-    λ rs k. c .named .ensures ∙ of-cell _ _ _ (start-is (c₁ .before)) rs k (c₁ .if1 .left)
+    λ rs k l. c .named .ensures ∙ of-cell _ _ _ (start-is (c₁ .before)) rs k l (c₁ .if1 .left)
 
 pub can-start-spec : {M : Type 1} → statement M
 can-start-spec =

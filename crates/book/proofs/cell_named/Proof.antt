@@ -7,22 +7,22 @@ use Rattle.book.proofs.cell_named.Tie as tie
 
 returns : tie.Need-returns
 unfolding cellNamed
-returns c = λ m. by-case cellNamed (c .before .before .f .given .1) (seen (part _ (sym (c .cell-of .ensures))))
+returns c = λ k m. by-case cellNamed (c .before .before .f .given .1) (seen (part _ (sym (c .cell-of .ensures))))
 
 returns-2 : tie.Need-returns-2
 unfolding cellNamed
 returns-2 c =
     let c₁ = c .before .before in
-    let c₂ = c₁ .before .before .before in
-    λ m. by-case cellNamed (c₂ .f2 .given .1) ((c₁ .mention .ensures) _ m)
+    let c₂ = c₁ .before .before .before .before in
+    λ k m. by-case cellNamed (c₂ .f2 .given .1) ((c₁ .mention .ensures) _ k m)
 
 returns-3 : tie.Need-returns-3
 unfolding cellNamed
-returns-3 c = λ m. by-case cellNamed (c .enum-told .given .1) give
+returns-3 c = λ k m. by-case cellNamed (c .enum-told .given .1) give
 
 returns-4 : tie.Need-returns-4
 unfolding cellNamed
-returns-4 c = λ m. by-case cellNamed (c .enum-told2 .given .1) give
+returns-4 c = λ k m. by-case cellNamed (c .enum-told2 .given .1) give
 
 pub cell-named-spec : {M : Type 1} → statement M
 cell-named-spec =

@@ -1,3 +1,4 @@
+use Rattle.book.proofs.KeptLaws.{defined}
 use Rattle.book.proofs.StepLaws.{notes-local}
 use Rattle.steps.proofs.Sequence.{bind, give, then}
 use Rattle.paper.specs.Deck.{cellFor}
@@ -8,7 +9,9 @@ use Rattle.book.proofs.define_local.Tie as tie
 returns : tie.Need-returns
 unfolding cellFor
 returns c =
-    λ rs m. bind _ ((c .before .before .before .before .mention .ensures) rs m) (then (notes-local _ _ _ (c .with-local .ensures)) give)
+    let c₁ = c .before .before .before .before .before in
+    λ rs k m. bind _ ((c₁ .mention .ensures) rs k m) (then (notes-local _ _ _ _ (c .note .ensures) (defined _ (search needs))) give)
 
 pub define-local-spec : {M : Type 1} → statement M
-define-local-spec = tie.close (tie.spec (λ c κs. search needs) (λ c κs. search needs) (λ c. search needs) returns)
+define-local-spec =
+    tie.close (tie.spec (λ c κs. search needs) (λ c. search needs) (λ c. search needs) (λ c κs. search needs) (λ c. search needs) returns)

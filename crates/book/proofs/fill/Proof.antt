@@ -13,8 +13,8 @@ returns c =
     let c₁ = c .before .before .before in
     let c₂ = c₁ .before .before .before .before in
     let c₃ = c₂ .before .before .before in
-    λ a y p rs m. sees _ (part _ refl)
-    (then ((c₂ .link-up .ensures) a rs _ m)
+    λ a y p rs l m. sees _ (part _ refl)
+    (then ((c₂ .link-up .ensures) a rs _ l m)
     (then (puts _ _ (c₁ .put .ensures) p) (waits _ (ap (waitingNoted (c₃ .args .notes)) (c .pick .ensures)))))
 
 pub fill-spec : {M : Type 1} → statement M

@@ -37,7 +37,7 @@ returns-2 : tie.Need-returns-2
 unfolding nameFits
 returns-2 c =
     let c₁ = c .before in
-    let c₂ = c₁ .before .before .before in
+    let c₂ = c₁ .before .before .before .before in
     let c₃ = c₂ .before .before .before in
     let w = not (eqb (c₃ .args .notes .waiting) 0) && not (c₃ .args .word) in
     by-case (λ x. nameFits (c₃ .args .word) (nameOf x)) (c₂ .name2 .given .1)
@@ -52,7 +52,8 @@ returns-3 : tie.Need-returns-3
 unfolding nameFits
 returns-3 c =
     let c₁ = c .before in
-    by-case (λ x. nameFits (c₁ .before .before .before .args .word) (nameOf x)) (c₁ .enum-told .given .1)
+    let c₂ = c₁ .before .before .before in
+    by-case (λ x. nameFits (c₂ .args .word) (nameOf x)) (c₁ .enum-told .given .1)
     (sees _ (told-part _ (λ t h. h .waiting)) (or-tells _ _ _ (any (c .refuse-if3 .ensures)) (λ d. d)))
 
 pub name-fits-spec : {M : Type 1} → statement M

@@ -9,19 +9,13 @@ use Rattle.book.proofs.open_structure.Tie as tie
 returns : tie.Need-returns
 unfolding cellFor
 returns c =
-    let c₁ = c .before .before .before in
+    let c₁ = c .before .before .before .before in
     let c₂ = c₁ .before .before in
     let c₃ = c₂ .before in
     λ s. test-at (c₃ .closes .ensures) refl
-    (sees _ (part _ (sym (c₂ .cell-of .ensures))) (then (opens-structure _ (c .with-structure .ensures) (c₁ .mark .ensures)) give))
+    (sees _ (part _ (sym (c₂ .cell-of .ensures))) (then (opens-structure _ (c .forget .ensures) (c₁ .mark .ensures)) give))
 
 pub open-structure-spec : {M : Type 1} → statement M
 open-structure-spec =
     tie.close
-    (tie.spec
-    (λ c κs. search needs)
-    (λ c κs. search needs)
-    (λ c κs. search needs)
-    (λ c κs. search needs)
-    (λ c. search needs)
-    returns)
+    (tie.spec (λ c κs. search needs) (λ c κs. search needs) (λ c κs. search needs) (λ c κs. search needs) (λ c. search needs) returns)

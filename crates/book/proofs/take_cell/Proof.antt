@@ -19,7 +19,7 @@ returns c =
     let c₆ = c₅ .before .before in
     let c₇ = c₆ .before in
     let c₈ = c₇ .before in
-    λ rs k m. sees _ (part _ (ap wordIn (c₈ .peek .ensures) ∙ c₇ .word-in .ensures))
+    λ rs k l m. sees _ (part _ (ap wordIn (c₈ .peek .ensures) ∙ c₇ .word-in .ensures))
     (test (c₆ .refuse-if .ensures)
     (then (takes _ _ _ _ (c₂ .put .ensures) (c₁ .put2 .ensures) (c₃ .with-link .ensures) (c₅ .peek2 .ensures) (c₄ .free-link .ensures)) give))
 

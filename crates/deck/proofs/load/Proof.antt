@@ -24,7 +24,7 @@ slice-aggregate-load-records c =
 
 load-records-requires : tie.Need-load-records-requires
 load-records-requires c κs =
-    let c₁ = c .before .before in
+    let c₁ = c .before .before .before in
     let c₂ = c₁ .before in
     let few = in-range _ _ (c₂ .size-fits .ensures) (c₁ .if1 .left) in
     record { few = few; marks = sym (marks-lent _ largestN few) }
@@ -33,7 +33,7 @@ returns-2 : tie.Need-returns-2
 returns-2 c =
     let c₁ = c .before in
     let c₂ = c₁ .before .before .before .before .before in
-    let c₃ = c₂ .before .before .before in
+    let c₃ = c₂ .before .before .before .before in
     let c₄ = c₃ .before in
     loads-fine _ _ _ (c₄ .size-fits .ensures) (c₃ .if1 .left) _ (c₂ .load-records .ensures) (c₁ .if2 .taken)
 
@@ -42,7 +42,7 @@ returns-3 c =
     let c₁ = c .before in
     let c₂ = c₁ .before .before .before in
     let c₃ = c₂ .before .before .before .before .before .before .before in
-    let c₄ = c₃ .before .before .before in
+    let c₄ = c₃ .before .before .before .before in
     let c₅ = c₄ .before in
     loads-refused _ _ _ (c₅ .size-fits .ensures) (c₄ .if1 .left) _ (c₃ .load-records .ensures) _ (c₁ .fault .ensures)
     (c₃ .load-records .kept .1 .0) (c₂ .zero .ensures) (c .none2 .ensures)

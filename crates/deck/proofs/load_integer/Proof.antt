@@ -12,11 +12,11 @@ returns c =
     let c₁ = c .before .before in
     let c₂ = c₁ .before in
     let c₃ = c₂ .before .before .before .before .before .before .before in
-    let c₄ = c₃ .before .before .before in
-    let c₅ = c₄ .before .before .before .before in
+    let c₄ = c₃ .before .before .before .before in
+    let c₅ = c₄ .before .before .before .before .before in
     placed refl (c₅ .pre)
     (test-at (c₄ .name-fits .ensures) (record { regions = refl; opened = refl; locals = refl; names = refl; waiting = refl })
-    (bind _ (c₃ .cell-for .ensures) ((c₁ .fill .ensures) _ _ (c₂ .of-term .ensures) _ _)))
+    (bind _ (c₃ .cell-for .ensures) ((c₁ .fill .ensures) _ _ (c₂ .of-term .ensures) _ _ _)))
 
 pub load-integer-spec : {M : Type 1} → statement M
 load-integer-spec =

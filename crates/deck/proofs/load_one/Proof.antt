@@ -26,7 +26,7 @@ returns-2 c =
 
 parse-requires : tie.Need-parse-requires
 parse-requires c κs =
-    let c₁ = c .before .before in
+    let c₁ = c .before .before .before in
     let c₂ = c₁ .before in
     let c₃ = c₂ .before in
     let c₄ = c₃ .before .before .before .before in
@@ -36,14 +36,14 @@ parse-requires c κs =
 
 load-parsed-requires : tie.Need-load-parsed-requires
 load-parsed-requires c κs =
-    let c₁ = c .before .before .before .before .before .before .before .before .before in
+    let c₁ = c .before .before .before .before .before .before .before .before .before .before in
     (c₁ .pre .0, c₁ .pre .1, lettered (c .parse .result) _ (c .parse .ensures))
 
 returns-3 : tie.Need-returns-3
 returns-3 c =
     let c₁ = c .before .before .before .before in
     let c₂ = c₁ .before in
-    let c₃ = c₂ .before .before .before in
+    let c₃ = c₂ .before .before .before .before in
     let c₄ = c₃ .before in
     let c₅ = c₄ .before in
     let c₆ = c₅ .before .before .before .before in

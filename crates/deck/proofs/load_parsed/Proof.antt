@@ -10,7 +10,7 @@ use Rattle.deck.proofs.load_parsed.Tie as tie
 
 load-record-requires : tie.Need-load-record-requires
 load-record-requires c κs =
-    let c₁ = c .before .before .before in
+    let c₁ = c .before .before .before .before in
     let c₂ = c₁ .before .before .before .before in
     (c₂ .pre .0, c₂ .pre .1, subst AllLettered (c₁ .x .given .1) (c₂ .pre .2))
 
@@ -25,7 +25,7 @@ returns-2 : tie.Need-returns-2
 unfolding oneParsed wellFormed
 returns-2 c =
     let c₁ = c .before .before .before .before in
-    let c₂ = c₁ .before .before .before .before in
+    let c₂ = c₁ .before .before .before .before .before in
     let c₃ = c₂ .before .before .before .before in
     placed-as (λ y. oneParsed (length (c₃ .args .cells .now)) (parsedOf y)) (c₂ .x .given .1)
     (record { did = bind (oneRecord _) give (c₁ .load-record .ensures .did); made = (c₁ .load-record .ensures .made) })

@@ -9,7 +9,7 @@ use Rattle.deck.proofs.load_record.Tie as tie
 
 load-region-requires : tie.Need-load-region-requires
 load-region-requires c κs =
-    let c₁ = c .before .before .before in
+    let c₁ = c .before .before .before .before in
     let c₂ = c₁ .before .before .before .before in
     (c₂ .pre .0, c₂ .pre .1, subst Lettered (c₁ .x .given .1) (c₂ .pre .2))
 
@@ -17,7 +17,7 @@ returns : tie.Need-returns
 unfolding ordinary oneRecord loadRecord
 returns c =
     let c₁ = c .before .before .before .before in
-    let c₂ = c₁ .before .before .before .before in
+    let c₂ = c₁ .before .before .before .before .before in
     let c₃ = c₂ .before .before .before .before in
     placed-as (λ y. oneRecord (length (c₃ .args .cells .now)) (recordOf y)) (c₂ .x .given .1) (c₁ .load-region .ensures)
 
@@ -25,7 +25,7 @@ returns-2 : tie.Need-returns-2
 unfolding ordinary oneRecord loadRecord
 returns-2 c =
     let c₁ = c .before .before .before .before in
-    let c₂ = c₁ .before .before .before .before in
+    let c₂ = c₁ .before .before .before .before .before in
     let c₃ = c₂ .before .before .before .before in
     placed-as (λ y. oneRecord (length (c₃ .args .cells .now)) (recordOf y)) (c₂ .x2 .given .1) (c₁ .load-routine .ensures)
 
@@ -33,7 +33,7 @@ returns-3 : tie.Need-returns-3
 unfolding ordinary oneRecord loadRecord
 returns-3 c =
     let c₁ = c .before .before .before .before in
-    let c₂ = c₁ .before .before .before in
+    let c₂ = c₁ .before .before .before .before in
     let c₃ = c₂ .before .before in
     let c₄ = c₃ .before .before .before .before in
     placed-as (λ y. oneRecord (length (c₄ .args .cells .now)) (recordOf y)) (c₃ .x3 .given .1)
@@ -44,7 +44,7 @@ returns-4 : tie.Need-returns-4
 unfolding ordinary oneRecord loadRecord
 returns-4 c =
     let c₁ = c .before .before .before .before in
-    let c₂ = c₁ .before .before .before .before in
+    let c₂ = c₁ .before .before .before .before .before in
     let c₃ = c₂ .before .before .before .before in
     placed-as (λ y. oneRecord (length (c₃ .args .cells .now)) (recordOf y)) (c₂ .x4 .given .1) (c₁ .load-integer .ensures)
 
@@ -52,7 +52,7 @@ returns-5 : tie.Need-returns-5
 unfolding ordinary oneRecord loadRecord
 returns-5 c =
     let c₁ = c .before .before in
-    let c₂ = c₁ .before .before .before in
+    let c₂ = c₁ .before .before .before .before in
     let c₃ = c₂ .before .before .before .before in
     placed-as (λ y. oneRecord (length (c₃ .args .cells .now)) (recordOf y)) (c₂ .x5 .given .1)
     (record { did = then ((c₁ .load-start .ensures) _) give; made = (c₃ .pre .0) })

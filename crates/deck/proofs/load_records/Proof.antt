@@ -7,22 +7,24 @@ use Rattle.deck.proofs.load_records.Statement.{statement}
 use Rattle.deck.proofs.load_records.Tie as tie
 
 abbrev Inv-loop : tie.InvT-loop
-Inv-loop deck cells names regions notes go₀ last from at r kind symbols₀ n i₀ go symbols i = (i ≤ n) × (length symbols ≡ 3) × Written kind r symbols i
+Inv-loop deck cells names locals regions notes go₀ last from at r kind symbols₀ n i₀ go symbols i =
+    (i ≤ n) × (length symbols ≡ 3) × Written kind r symbols i
 
 abbrev μ-loop : tie.MeasureT-loop
-μ-loop deck cells names regions notes go₀ last from at r kind symbols₀ n i₀ go symbols i = n - i
+μ-loop deck cells names locals regions notes go₀ last from at r kind symbols₀ n i₀ go symbols i = n - i
 
 abbrev Inv-deck : tie.InvT-deck
-Inv-deck deck cells₀ names₀ regions₀ notes₀ go₀ last₀ from₀ at₀ cells names regions notes go last from at =
-    Stands deck (length cells₀) cells names regions notes go last from at
+Inv-deck deck cells₀ names₀ locals₀ regions₀ notes₀ go₀ last₀ from₀ at₀ cells names locals regions notes go last from at =
+    Stands deck (length cells₀) locals cells names regions notes go last from at
 
 abbrev μ-deck : tie.MeasureT-deck
-μ-deck deck cells₀ names₀ regions₀ notes₀ go₀ last₀ from₀ at₀ cells names regions notes go last from at = length deck - at
+μ-deck deck cells₀ names₀ locals₀ regions₀ notes₀ go₀ last₀ from₀ at₀ cells names locals regions notes go last from at =
+    length deck - at
 
 deck-holds : tie.Need-deck-holds Inv-loop μ-loop Inv-deck μ-deck
 deck-holds c =
     let c₁ = c .before .before .before .before in
-    let c₂ = c₁ .before .before .before in
+    let c₂ = c₁ .before .before .before .before in
     let c₃ = c₂ .before .before .before .before in
     stands-first _ _ (c₂ .none .ensures) (c₁ .begin .kept .0) (c₁ .begin .kept .1 .0 ∙ c₃ .pre .marks ∙ sym (c₁ .begin .kept .0))
     (c₁ .begin .ensures .0) (c₁ .begin .ensures .1)
@@ -31,7 +33,7 @@ shared-slice-read-kind : tie.Need-shared-slice-read-kind Inv-loop μ-loop Inv-de
 shared-slice-read-kind c =
     let c₁ = c .before .before in
     let c₂ = c₁ .before in
-    let c₃ = c₂ .before .before .before .before .before .before .before .before .before .before .before .before in
+    let c₃ = c₂ .before .before .before .before .before .before .before .before .before .before .before .before .before in
     let deck = c₃ .args .deck .now in
     let at = c₂ .deck .at in
     omega (arith, at-hand at (length deck) (c₂ .deck .last) (c₁ .deck-test .taken) .0, ap length (to-end deck at), length-drop at deck)
@@ -43,14 +45,14 @@ mul-symbols : tie.Need-mul-symbols Inv-loop μ-loop Inv-deck μ-deck
 mul-symbols c =
     let c₁ = c .before .before .before .before .before .before in
     let c₂ = c₁ .before .before .before .before in
-    let c₃ = c₂ .before .before .before .before .before .before .before .before .before .before .before .before in
+    let c₃ = c₂ .before .before .before .before .before .before .before .before .before .before .before .before .before in
     omega (arith, c₁ .symbols-at .ensures, few-symbols (partAt (c₃ .args .deck .now) (c₂ .deck .at)))
 
 array-set-from-symbols : tie.Need-array-set-from-symbols Inv-loop μ-loop Inv-deck μ-deck
 array-set-from-symbols c =
     let c₁ = c .before .before .before .before .before .before in
     let c₂ = c₁ .before .before .before .before in
-    let c₃ = c₂ .before .before .before .before .before .before .before .before .before .before .before .before in
+    let c₃ = c₂ .before .before .before .before .before .before .before .before .before .before .before .before .before in
     omega (arith, c₁ .symbols-at .ensures, few-symbols (partAt (c₃ .args .deck .now) (c₂ .deck .at)))
 
 loop-again : tie.Need-loop-again Inv-loop μ-loop Inv-deck μ-deck
@@ -60,7 +62,7 @@ loop-again c =
     let c₃ = c₂ .before .before in
     let c₄ = c₃ .before in
     let c₅ = c₄ .before .before .before .before in
-    let c₆ = c₅ .before .before .before .before .before .before .before .before .before .before .before .before in (
+    let c₆ = c₅ .before .before .before .before .before .before .before .before .before .before .before .before .before in (
       search needs,
       search needs,
       written-more _ _ (c₃ .loop .symbols) (c₃ .loop .i) _ _
@@ -70,11 +72,11 @@ loop-again c =
 
 load-one-requires : tie.Need-load-one-requires Inv-loop μ-loop Inv-deck μ-deck
 load-one-requires c κs =
-    let c₁ = c .before .before .before in
+    let c₁ = c .before .before .before .before in
     let c₂ = c₁ .before in
     let c₃ = c₂ .before .before .before .before in
     let c₄ = c₃ .before .before .before .before .before in
-    let c₅ = c₄ .before .before .before .before .before .before .before in (
+    let c₅ = c₄ .before .before .before .before .before .before .before .before in (
       c₃ .deck .inv .made,
       record { few = omega (arith, c₃ .deck .inv .cells, c₄ .begin .kept .0, c₅ .pre .few); marks = c₃ .deck .inv .marks ∙ sym (c₃ .deck .inv .cells) },
       refl,
@@ -84,9 +86,9 @@ load-one-requires c κs =
 add-at : tie.Need-add-at Inv-loop μ-loop Inv-deck μ-deck
 add-at c =
     let c₁ = c .before .before .before .before .before .before in
-    let c₂ = c₁ .before .before .before .before .before .before .before .before in
+    let c₂ = c₁ .before .before .before .before .before .before .before .before .before in
     let c₃ = c₂ .before in
-    let c₄ = c₃ .before .before .before .before .before .before .before .before .before .before .before .before in
+    let c₄ = c₃ .before .before .before .before .before .before .before .before .before .before .before .before .before in
     let part = to-end (c₄ .args .deck .now) (c₃ .deck .at) in
     let on = reads-on (c₃ .deck .inv) (c₂ .deck-test .taken) _ part (c₁ .load-one .ensures) (omega arith) _ (c .size-of .ensures) in
     omega (arith, on, c₄ .good .0 .0)
@@ -95,9 +97,9 @@ deck-less : tie.Need-deck-less Inv-loop μ-loop Inv-deck μ-deck
 deck-less c =
     let c₁ = c .before .before in
     let c₂ = c₁ .before .before .before .before .before .before in
-    let c₃ = c₂ .before .before .before .before .before .before .before .before in
+    let c₃ = c₂ .before .before .before .before .before .before .before .before .before in
     let c₄ = c₃ .before in
-    let c₅ = c₄ .before .before .before .before .before .before .before .before .before .before .before .before in
+    let c₅ = c₄ .before .before .before .before .before .before .before .before .before .before .before .before .before in
     let part = to-end (c₅ .args .deck .now) (c₄ .deck .at) in
     let on = reads-on (c₄ .deck .inv) (c₃ .deck-test .taken) _ part (c₂ .load-one .ensures) (omega arith) _ (c₁ .size-of .ensures) in
     omega (arith, on, further (c₄ .deck .inv) (c₃ .deck-test .taken) _ part (c₂ .load-one .ensures) (omega arith) _ (c₁ .size-of .ensures))
@@ -106,9 +108,9 @@ deck-again : tie.Need-deck-again Inv-loop μ-loop Inv-deck μ-deck
 deck-again c =
     let c₁ = c .before .before in
     let c₂ = c₁ .before .before .before .before .before .before in
-    let c₃ = c₂ .before .before .before .before .before .before .before .before in
+    let c₃ = c₂ .before .before .before .before .before .before .before .before .before in
     let c₄ = c₃ .before in
-    let c₅ = c₄ .before .before .before .before .before .before .before .before .before .before .before .before in
+    let c₅ = c₄ .before .before .before .before .before .before .before .before .before .before .before .before .before in
     goes-round (c₄ .deck .inv) (c₃ .deck-test .taken) _ (to-end (c₅ .args .deck .now) (c₄ .deck .at)) (c₂ .load-one .ensures) (omega arith) _
     (c₁ .size-of .ensures) (c₂ .load-one .kept .0) (c₂ .load-one .kept .1 .0)
 
@@ -117,19 +119,19 @@ leaves : (c : tie.Left-deck Inv-loop μ-loop Inv-deck μ-deck)
     → let x = c .deck-test in
     let d = c .before in
     let b = d .before .before .before .before .before in
-    let a = b .before .before .before .before .before .before .before in
+    let a = b .before .before .before .before .before .before .before .before in
     Leaves (a .args .deck .now) (length (b .begin .last .0)) (x .cells) (x .names) (d .deck .regions) (x .go) (d .deck .last) (x .from) (d .deck .at)
 leaves c =
     let d = c .before in
-    let a = d .before .before .before .before .before .before .before .before .before .before .before .before in
+    let a = d .before .before .before .before .before .before .before .before .before .before .before .before .before in
     let v = d .deck .inv in
     let part = to-end (a .args .deck .now) (d .deck .at) in
-    ⊎-elim (λ w. leaves-as (w .1) (w .2) (w .3) (w .4) (leaves-end v (w .0 .left)))
+    ⊎-elim (λ w. leaves-as (w .1) (w .2) (w .4) (w .5) (leaves-end v (w .0 .left)))
     (⊎-elim
-    (λ w. leaves-as (w .9) (w .10) (w .11) (w .12)
+    (λ w. leaves-as (w .9) (w .10) (w .12) (w .13)
     (leaves-symbol v (w .0 .taken) _ part (w .4 .i) _ (omega (arith, w .5 .taken, w .3 .ensures)) (w .6 .ensures) (w .8 .given .1)))
-    (λ w. leaves-as (w .14) (w .15) (w .16) (w .17)
-    (leaves-refused v (w .0 .taken) _ part (w .8 .ensures) (w .13 .taken) (w .8 .kept .0) (w .8 .kept .1 .0)))) (c .deck-test .came)
+    (λ w. leaves-as (w .15) (w .16) (w .18) (w .19)
+    (leaves-refused v (w .0 .taken) _ part (w .9 .ensures) (w .14 .taken) (w .9 .kept .0) (w .9 .kept .1 .0)))) (c .deck-test .came)
 
 same-length : tie.Need-same-length Inv-loop μ-loop Inv-deck μ-deck
 same-length c =
@@ -141,18 +143,20 @@ same-length-2 : tie.Need-same-length-2 Inv-loop μ-loop Inv-deck μ-deck
 same-length-2 c =
     let c₁ = c .before .before .before .before .before .before in
     let c₂ = c₁ .before .before .before .before .before .before in
-    let c₃ = c₂ .before .before .before .before .before .before .before in
+    let c₃ = c₂ .before .before .before .before .before .before .before .before in
     leaves c₁ .marks ∙ c₂ .begin .kept .0 ∙ sym (c₃ .pre .marks)
 
 returns : tie.Need-returns Inv-loop μ-loop Inv-deck μ-deck
 returns c =
-    let c₁ = c .before .before .before .before .before in
+    let c₁ = c .before in
     let c₂ = c₁ .before in
-    let c₃ = c₂ .before in
-    let c₄ = c₃ .before .before .before .before .before in
-    let c₅ = c₄ .before .before .before .before .before .before .before in
-    ends (c₅ .args .deck .now) (c₅ .args .cells .now) _ _ _ _ (c₄ .begin .kept .0) (leaves c₂) (c₁ .refuse-if .ensures)
-    (c .before .before .can-start .ensures) (c .before .refuse-if2 .ensures) (c .offset .ensures) (c₃ .deck .inv .made .made)
+    let c₃ = c₂ .before .before .before in
+    let c₄ = c₃ .before in
+    let c₅ = c₄ .before in
+    let c₆ = c₅ .before .before .before .before .before in
+    let c₇ = c₆ .before .before .before .before .before .before .before .before in
+    ends (c₇ .args .deck .now) (c₇ .args .cells .now) _ _ _ _ (c₆ .begin .kept .0) (leaves c₄) (c₃ .refuse-if .ensures)
+    (c₂ .can-start .ensures) (c₁ .refuse-if2 .ensures) (c .offset .ensures) (c₅ .deck .inv .made .made)
 
 pub load-records-spec : {M : Type 1} → statement M
 load-records-spec =

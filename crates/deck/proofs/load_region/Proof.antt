@@ -13,33 +13,33 @@ use Rattle.deck.proofs.load_region.Tie as tie
 returns : tie.Need-returns
 unfolding loadRegion
 returns c =
-    let c₀ = c .before in
-    let c₁ = c₀ .before .before in
-    let c₂ = c₁ .before in
-    let c₃ = c₂ .before .before .before in
-    let full = ltb (length (c₃ .args .cells .now)) ((c₂ .top .result) + (c₃ .args .n)) in
+    let c₁ = c .before in
+    let c₂ = c₁ .before .before in
+    let c₃ = c₂ .before in
+    let c₄ = c₃ .before .before .before in
+    let full = ltb (length (c₄ .args .cells .now)) ((c₃ .top .result) + (c₄ .args .n)) in
     placed-to (c .stopped .ensures)
-    (placed refl (c₃ .pre .0)
+    (placed refl (c₄ .pre .0)
     (from-is (told-fine 0 refl)
     (to-is (sym (told-fault 5 (omega arith)))
-    (sees _ (part _ (sym (c₁ .letter-taken .ensures)))
-    (or-stops _ _ _ (sym (or-assoc (c₁ .letter-taken .result) (c₃ .args .notes .words) full) ∙ c₀ .if1 .taken)
+    (sees _ (part _ (sym (c₂ .letter-taken .ensures)))
+    (or-stops _ _ _ (sym (or-assoc (c₂ .letter-taken .result) (c₄ .args .notes .words) full) ∙ c₁ .if1 .taken)
     (λ e. sees _ (part _ refl)
-    (or-stops _ _ _ e (λ e. sees _ (part _ (sym (c₂ .top .ensures))) (test (judged-yes _ _ e refl refl) (undone _ refl))))))))))
+    (or-stops _ _ _ e (λ e. sees _ (part _ (sym (c₃ .top .ensures))) (test (judged-yes _ _ e refl refl) (undone _ refl))))))))))
 
 -- the table's arrays have 23 places
 sized : (c : tie.After-slice-known4)
-    → let r = c .before .before .before .before .before .before .before .before .before .before .before .before .before .before .args .regions in
+    → let r = c .before .before .before .before .before .before .before .before .before .before .before .before .before .before .before .args .regions in
     (length (r .letters) ≡ 23) × (length (r .counts) ≡ 23)
 sized c =
-    let g = c .before .before .before .before .before .before .before .before .before .before .before .before .before .before .good .1 .1 .0 in
+    let g = c .before .before .before .before .before .before .before .before .before .before .before .before .before .before .before .good .1 .1 .1 .0 in
     (search needs, search needs)
 
 returns-2 : tie.Need-returns-2
 unfolding loadRegion
 returns-2 c =
     let c₁ = c .before .before .before .before in
-    let c₂ = c₁ .before .before .before in
+    let c₂ = c₁ .before .before .before .before in
     let c₃ = c₂ .before in
     let c₄ = c₃ .before .before in
     let c₅ = c₄ .before in

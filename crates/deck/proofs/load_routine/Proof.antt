@@ -10,8 +10,9 @@ returns : tie.Need-returns
 unfolding loadRoutine
 returns c =
     let c₁ = c .before .before .before .before .before in
-    let c₂ = c₁ .before .before .before in
-    let w = c₂ .before .before .before .before .before .args .w in
+    let c₂ = c₁ .before .before .before .before in
+    let c₃ = c₂ .before .before .before .before .before in
+    let w = c₃ .args .w in
     tested-too _ _ (c₁ .load-word .ensures) (when Hopeless (ap (λ b. eqb (w .p) 0 && eqb (w .q) 0 && b) (c₂ .is-missing .ensures)) (c .refuse-if .ensures))
 
 pub load-routine-spec : {M : Type 1} → statement M

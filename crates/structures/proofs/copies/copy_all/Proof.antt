@@ -25,8 +25,9 @@ abbrev μ : tie.MeasureT-loop
 
 room : tie.Need-put-requires Inv μ
 room c κs =
-    let l = c .before .before .before .before .before .before .before .before .loop in
-    let d = due-all {n = c .before .before .before .before .before .before .before .before .before .before .before .before .args .n} (c .before .before .before .before .before .before .before .before .before .if1 .left) in
+    let c₁ = c .before .before .before .before .before .before .before .before in
+    let l = c₁ .loop in
+    let d = due-all {n = c₁ .before .before .before .before .args .n} (c₁ .before .if1 .left) in
     (record { fits = omega (arith, l .inv .3 .count, writes-most (c .mark-at .result), d) }, c .before .before .before .copied .ensures .formed)
 
 again : tie.Need-loop-again Inv μ
