@@ -1,7 +1,7 @@
 -- Laws of the locals, a number for each.
 use Rattle.paper.proofs.Kit.{_||_, ℕ, zero, suc, _+_, _%_, _<_, _≤_, Bool, true, false, _&&_, List, [], _∷_, _≡_, refl, ap, _∙_, sym, arith, add-one}
 use Rattle.paper.proofs.Kit.{leb, eqb, le-leb, lt-leb, leb-false, length, getD, set, replicate, drop, drop-of-length-le, drop-cons}
-use Rattle.paper.proofs.Kit.{List·getD-eq-default, and-assoc}
+use Rattle.paper.proofs.Kit.{List·getD-eq-default, and-assoc, and-true, or-true}
 use Rattle.paper.specs.Deck.{LocalCell, noLocal, localAt, allWords}
 use Rattle.book.specs.Kept.{localOf, localsOf}
 
@@ -43,14 +43,8 @@ wordsFrom l i = allWords (localsOf (drop i l))
 same-test : (x : ℕ) → (eqb x 0 || leb 65536 x) ≡ (eqb (x % 65536) 0 || leb 65536 x)
 same-test x = go (leb 65536 x) refl
   where
-    or-yes : (a b : Bool) → (a || true) ≡ (b || true)
-    or-yes true true = refl
-    or-yes true false = refl
-    or-yes false true = refl
-    or-yes false false = refl
-
     go : (t : Bool) → leb 65536 x ≡ t → (eqb x 0 || t) ≡ (eqb (x % 65536) 0 || t)
-    go true e = or-yes (eqb x 0) (eqb (x % 65536) 0)
+    go true e = or-true (eqb x 0) ∙ sym (or-true (eqb (x % 65536) 0))
     go false e = let f : x % 65536 ≡ x = omega (arith, leb-false 65536 x e) in rw f
 
 words-more : (l : List ℕ) (i : ℕ) → i < length l → wordsFrom l i ≡ ((eqb (getD l i 0) 0 || leb 65536 (getD l i 0)) && wordsFrom l (i + 1))
@@ -63,8 +57,4 @@ words-on l i all v h e = and-assoc all _ _ ∙ ap (λ (b : Bool). all && b) (sym
 
 pub words-end : (l : List ℕ) (i : ℕ) (all v : Bool) → length l ≤ i → (all && wordsFrom l i) ≡ v → all ≡ v
 unfolding allWords
-words-end l i all v h e = sym (and-yes all) ∙ ap (λ (ls : List ℕ). all && allWords (localsOf ls)) (sym (drop-of-length-le l h)) ∙ e
-  where
-    and-yes : (b : Bool) → (b && true) ≡ b
-    and-yes true = refl
-    and-yes false = refl
+words-end l i all v h e = sym (and-true all) ∙ ap (λ (ls : List ℕ). all && allWords (localsOf ls)) (sym (drop-of-length-le l h)) ∙ e

@@ -27,7 +27,7 @@ fn nothing(go: u32) -> Fetched
     }
 }
 
-// A word w that was fetched from cell c.
+// A word w that was fetched from cell c. Q 0, as nearly all have, is asked for by itself: S is SYMB, and no cell is read for it.
 fn order_in(cells: &[u64], top: u16, c: u16, w: u64) -> Fetched
     requires { ⌜ firstDeck ≤ top ⌝ }
     ensures { λ r. ⌜ Reads (Top top) (orderIn c (wordOf w)) cells 0 (r .go) (orderOf r) ⌝ }
@@ -39,6 +39,14 @@ fn order_in(cells: &[u64], top: u16, c: u16, w: u64) -> Fetched
     let go = acts::not_own(0, c);
     if go != 0 {
         return nothing(go);
+    }
+    if q == 0 {
+        return Fetched {
+            go: go,
+            p: (w / cells::P % 256) as u8,
+            x: acts::name_of(top, (w / cells::SYMB % 65536) as u16),
+            link: (w % 65536) as u16,
+        };
     }
     let g = acts::designate(cells, go, top, q, (w / cells::SYMB % 65536) as u16);
     let x = g.x;

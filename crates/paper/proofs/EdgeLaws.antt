@@ -2,7 +2,6 @@
 use Rattle.paper.proofs.Kit.{_≡_, refl, true, false, none, some}
 use Rattle.paper.specs.Cell.{sizeFits}
 use Rattle.paper.specs.Step.{choose}
-use Rattle.paper.specs.Region.{isLetter}
 use Rattle.paper.specs.Record.{field, Local}
 
 -- "Raise N to 65,535": below it begins at 256, as before
@@ -11,5 +10,5 @@ sizes = (refl, refl, refl, refl)
 
 -- "and locals to 0..999"
 pub locals : (field 0x39 0 ≡ some (Local 0)) × (field 0x39 999 ≡ some (Local 999)) × (field 0x39 1000 ≡ none)
-unfolding field choose isLetter
+unfolding field choose
 locals = (refl, refl, refl)
