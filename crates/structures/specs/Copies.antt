@@ -56,8 +56,8 @@ pub record AllNew (order marks : List ℕ) (found n : ℕ) : Type 0 where
 abbrev pub due : ℕ → ℕ → ℕ
 due go n = cond (eqb go 0) n 0
 
--- what is copied into the new cells from here on makes a copy of the first n of the order; the writes so far and those to come are one more
--- than there are cells, since new cells are no old ones
+-- what is copied into the new cells from here on makes a copy of the first n of the order; the writes so far and those to come are at
+-- most one more than there are cells, since new cells are no old ones
 pub record Prepares (order marks : List ℕ) (n : ℕ) (x : List ℕ × List ℕ) (go : ℕ) (y : List ℕ × List ℕ) (r : ℕ) : Type 0 where
   pub wrote : ℕ
   pub on : (c j : ℕ) (z : List ℕ × List ℕ) (e : Option Refusal)
