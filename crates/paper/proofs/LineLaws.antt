@@ -1,13 +1,13 @@
--- How long a line can be, its line feed counted: what J152 prints of any symbol in a store that a run takes, and J153 of any integer; and that
+-- How long a line can be, its line feed counted: what J152 prints of any symbol in a store that a run takes, and J153 of any data term; and that
 -- a store has lines of just that length.
 use Rattle.paper.proofs.Kit.{_≡_, refl, sym, ap, _∙_, Bool, true, false, List, [], _∷_, _++_, Option, none, some, ℕ, zero, suc, _+_, _-_, _/_, _%_}
-use Rattle.paper.proofs.Kit.{_^_, _<_, _≤_, arith, ltb, eqb, ℤ, pos, negsuc, length, length-append, set, getD-set-same, getD-set-other}
-use Rattle.paper.specs.Limits.{firstDeck, mostDigits, cellDigits, largestN, halfRange, longestSymbolLine, longestLine}
-use Rattle.paper.specs.Cell.{Symbol, Word, mkWord, symbolOf, integer, free, word, term, cellAt, isFree, Region, W, State, withCells}
+use Rattle.paper.proofs.Kit.{_^_, _<_, _≤_, arith, ltb, eqb, ℤ, pos, negsuc, length, length-append, add-one, set, getD-set-same, getD-set-other}
+use Rattle.paper.specs.Limits.{firstDeck, mostDigits, cellDigits, hexDigits, largestN, halfRange, longestSymbolLine, longestLine}
+use Rattle.paper.specs.Cell.{Symbol, Word, mkWord, symbolOf, Term, integer, floating, free, word, term, cellAt, isFree, Region, W, State, withCells}
 use Rattle.paper.specs.Region.{regionOf, layout, lettersFrom, lettersOf, regionsSound, endOfRegions, letterTaken}
 use Rattle.paper.specs.Step.{choose}
-use Rattle.paper.specs.Print.{digitsBy, digits, integerText, cellText, symbolText, lineBytes}
-use Rattle.paper.proofs.SoundStore.{Frame, near, as-local, symbol-word, Sound, WordOk, in-store, its, put-sound}
+use Rattle.paper.specs.Print.{digitsBy, digits, hexDigit, hexBy, termText, cellText, symbolText, lineBytes}
+use Rattle.paper.proofs.SoundStore.{Frame, near, far-term, as-local, symbol-word, Sound, WordOk, in-store, its, put-sound}
 use Rattle.paper.proofs.SoundTest.{sound-from, sound-passes}
 use Rattle.paper.proofs.FreshLaws.{freshState, fresh-sound}
 use Rattle.paper.proofs.BookLaws.{choose-both, choose-last, reserved-open}
@@ -67,11 +67,23 @@ symbol-line rs x b =
     choose-both short _ _ _ _ (omega (arith, number))
     (choose-both short _ _ _ _ (cell-line (x .num) _ b (name-below rs (x .num))) (choose-last short _ (omega (arith, number))))
 
-pub integer-line : (z : ℤ) → lineBytes (integerText z) ≤ longestLine
-integer-line (pos n) = omega (arith, digits-length mostDigits n)
-integer-line (negsuc n) = omega (arith, digits-length mostDigits (suc n))
+hex-length : (k n : ℕ) → length (hexBy k n) ≡ k
+unfolding hexBy
+hex-length zero n = refl
+hex-length (suc k) n = length-append (hexBy k (n / 16)) (hexDigit (n % 16) ∷ []) ∙ ap (λ (m : ℕ). m + 1) (hex-length k (n / 16)) ∙ add-one k
 
--- every symbol of a store that a run takes, and every integer; `integer-line` is of any, as the text has ten digits at most
+pub term-line : (t : Term) → lineBytes (termText t) ≤ longestLine
+unfolding termText
+term-line (integer (pos n)) = omega (arith, digits-length mostDigits n)
+term-line (integer (negsuc n)) = omega (arith, digits-length mostDigits (suc n))
+term-line (floating b) = omega (arith, hex-length hexDigits b)
+
+-- CR 9: "eight hex digits", so 9 bytes with the line feed
+pub floating-line : (b : ℕ) → lineBytes (termText (floating b)) ≡ hexDigits + 1
+unfolding termText
+floating-line b = omega (arith, hex-length hexDigits b)
+
+-- every symbol of a store that a run takes, and every data term; `term-line` is of any, as the text has ten digits at most
 module _ (s : State) (r : Runnable s) (c : ℕ) where
   pub every-symbol : (w : Word) → cellAt (s .cells) c ≡ word w → lineBytes (symbolText (s .regions) (symbolOf w)) ≤ longestSymbolLine
   every-symbol w e =
@@ -80,8 +92,8 @@ module _ (s : State) (r : Runnable s) (c : ℕ) where
       let ok : WordOk (k .frame) c w = rw e at (k .isSound .each c below) in
       symbol-line (s .regions) (symbolOf w) (omega (arith, ok .symb<, k .frame .small))
 
-  pub every-integer : (z : ℤ) → cellAt (s .cells) c ≡ term (integer z) → lineBytes (integerText z) ≤ longestLine
-  every-integer z e = integer-line z
+  pub every-term : (t : Term) → cellAt (s .cells) c ≡ term t → lineBytes (termText t) ≤ longestLine
+  every-term t e = term-line t
 
 -- both lengths are reached in one store: 9-10000 stands in W0, -2147483648 in A0
 abbrev A0 : ℕ
@@ -139,7 +151,7 @@ symbolIn-sound =
 both-sound : Sound largest both
 both-sound =
     put-sound largest symbolIn A0 (term (integer longestInteger)) symbolIn-sound (reserved-open A0 symbolIn-sound (omega arith) (omega (arith, A-ends)) .used)
-    (omega arith) (omega arith) (record { place = λ _. omega arith; range = omega arith }) refl
+    (omega arith) (omega arith) (far-term (omega arith) (omega arith)) refl
 
 pub record Longest : Type 0 where
   pub store : State
@@ -147,10 +159,10 @@ pub record Longest : Type 0 where
   pub symbolAt : cellAt (store .cells) (W 0) ≡ word longestSymbol
   pub symbolLine : lineBytes (symbolText (store .regions) (symbolOf longestSymbol)) ≡ longestSymbolLine
   pub integerAt : cellAt (store .cells) A0 ≡ term (integer longestInteger)
-  pub integerLine : lineBytes (integerText longestInteger) ≡ longestLine
+  pub integerLine : lineBytes (termText (integer longestInteger)) ≡ longestLine
 
 pub longest-lines : Longest
-unfolding symbolText choose digitsBy
+unfolding symbolText termText choose digitsBy
 longest-lines =
     record {
       store = both;

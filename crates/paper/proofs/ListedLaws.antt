@@ -61,7 +61,7 @@ all-kinds =
     and just 110 (q-combines _) and just 111 (q-combines _)
     and just 114 (q-compares _) and just 115 (q-compares _) and just 116 (q-compares _)
     and just 117 (q-compares0 _) and just 118 (q-compares0 _) and just 119 (q-compares0 _)
-    and just 120 q-J120 and just 123 (q-changes _) and just 124 q-J124 and just 125 (q-changes _)
+    and just 120 q-J120 and just 123 (q-changes _ _) and just 124 q-J124 and just 125 (q-changes _ _)
     and just 130 (q-testsTag _) and just 131 q-J131 and just 132 (q-testsTag _) and just 134 (q-testsTag _)
     and just 136 (q-retags _) and just 138 (q-retags _)
     and printing J152-line (inl refl) and printing J153-line (inr refl) and none

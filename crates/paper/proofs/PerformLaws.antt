@@ -73,7 +73,7 @@ module _ (F : Frame) where
       also just 110 (s-combines _) also just 111 (s-combines _)
       also just 114 (s-compares _) also just 115 (s-compares _) also just 116 (s-compares _)
       also just 117 (s-compares0 _) also just 118 (s-compares0 _) also just 119 (s-compares0 _)
-      also just 120 s-J120 also just 123 (s-changes _) also just 124 s-J124 also just 125 (s-changes _)
+      also just 120 s-J120 also just 123 (s-changes _ _) also just 124 s-J124 also just 125 (s-changes _ _)
       also just 130 (s-testsTag _) also just 131 s-J131 also just 132 (s-testsTag _) also just 134 (s-testsTag _)
       also just 136 (s-retags _ as-local) also just 138 (s-retags _ as-internal)
       also just 152 s-J152 also just 153 s-J153 also no-more

@@ -3,14 +3,13 @@ use Rattle.paper.proofs.Kit.{clash, decLt, lt-ltb, le-ltb, _≡_, refl,
 use Rattle.paper.proofs.Kit.{length, length-append}
 use Rattle.paper.specs.Limits.{longestSymbolLine, longestLine}
 use Rattle.paper.specs.Step.{Res, done, refused, _>>=_, _>>_, refuseIf, asks, becomes}
-use Rattle.paper.specs.Cell.{symbolOf, wordIn, State, H}
-use Rattle.paper.specs.Act.{Act, Refusal, NotListed, NoRoom, own, pop}
-use Rattle.paper.specs.Print.{symbolText, integerText, feedByte, lineBytes, withLine, printLine}
-use Rattle.paper.specs.Process.{J152, J153, integerAt}
+use Rattle.paper.specs.Cell.{Term, symbolOf, wordIn, State, H}
+use Rattle.paper.specs.Act.{Act, Refusal, NotListed, NoRoom, own, termAt, pop}
+use Rattle.paper.specs.Print.{symbolText, termText, feedByte, lineBytes, withLine, printLine}
+use Rattle.paper.specs.Process.{J152, J153}
 use Rattle.paper.proofs.SoundStore.{Frame, at, Sound, its}
-use Rattle.paper.proofs.LineLaws.{symbol-line, integer-line}
-use Rattle.paper.proofs.QuietLaws.{Other, Same, Still, Quiet, q-pop}
-use Rattle.paper.proofs.QuietProcesses.{q-integerAt}
+use Rattle.paper.proofs.LineLaws.{symbol-line, term-line}
+use Rattle.paper.proofs.QuietLaws.{Other, Same, Still, Quiet, q-pop, q-termAt}
 
 -- nothing, or bytes that a line feed ends
 pub data Ended : List ℕ → Type 0 where
@@ -105,15 +104,15 @@ symbol-bound F s i =
     let below : wordIn (at s (H 0)) .symb < F .n = rw (w .is) (w .good .symb<) in
     symbol-line (s .regions) (symbolOf (wordIn (at s (H 0)))) (omega (arith, F .small))
 
--- J153: an integer
-integer-prints : (k : ℤ) (s : State) → Line longestLine s ((printLine (integerText k) >> pop) s)
-integer-prints k s = prints (integerText k) longestLine (integer-line k) q-pop s
+-- J153: a data term
+term-prints : (x : Term) (s : State) → Line longestLine s ((printLine (termText x) >> pop) s)
+term-prints x s = prints (termText x) longestLine (term-line x) q-pop s
 
 pub J153-prints : (s : State) → Line longestLine s (J153 s)
 unfolding J153 own _>>=_
-J153-prints s = go (integerAt (wordIn (at s (H 0)) .symb) s) (q-integerAt (wordIn (at s (H 0)) .symb) .at s)
+J153-prints s = go (termAt (wordIn (at s (H 0)) .symb) s) (q-termAt (wordIn (at s (H 0)) .symb) .at s)
   where
-    go : (r : Res State Refusal ℤ) → Still s r → Line {A = Unit {0}} longestLine s
-        (elim r as (λ _. Res State Refusal (Unit {0})) [ done a t ↦ (printLine (integerText a) >> pop) t | refused e ↦ refused e ])
-    go (done a t) p = line-from longestLine p ((printLine (integerText a) >> pop) t) (integer-prints a t)
+    go : (r : Res State Refusal Term) → Still s r → Line {A = Unit {0}} longestLine s
+        (elim r as (λ _. Res State Refusal (Unit {0})) [ done x t ↦ (printLine (termText x) >> pop) t | refused e ↦ refused e ])
+    go (done x t) p = line-from longestLine p ((printLine (termText x) >> pop) t) (term-prints x t)
     go (refused e) p = other p

@@ -1,9 +1,10 @@
 -- No process prints but J152 and J153: the others leave the lines and the room, and are refused neither by 28 nor by 30.
 use Rattle.paper.proofs.Kit.{Bool, true, false, ℕ, zero, suc, ℤ}
 use Rattle.paper.specs.Cell.{Symbol, Term}
+use Rattle.paper.specs.Term.{Operation, Relation}
 use Rattle.paper.specs.Act.{Act}
 use Rattle.paper.specs.Process.{setH5, tests, J1, J2, J5, J6, J9, eachW, moveTo, J2n, J3n, J4n, J5n, atEnd, dropEnd, moveOn, nextCell, J60, J63, J64}
-use Rattle.paper.specs.Process.{deleteLast, deleteNext, J68, J71, J72, J74, J90, integerAt, putTerm, combines, compares, compares0, J120, changes, J124}
+use Rattle.paper.specs.Process.{deleteLast, deleteNext, J68, J71, J72, J74, J90, pairAt, putTerm, combines, compares, compares0, J120, changes, J124}
 use Rattle.paper.specs.Process.{testsTag, J131, retags}
 use Rattle.paper.proofs.QuietLaws.{Quiet, q-ret, q-check, q-if, q-bind, q-seq, q-put, q-reserved, q-nameOf, q-own, q-touch, q-target, q-wordAt}
 use Rattle.paper.proofs.QuietLaws.{q-wordTo, q-termAt, q-termTo, q-notOwn, q-named, q-takeAs, q-release, q-linkBelow, q-preserve, q-pullUp, q-restore}
@@ -101,34 +102,34 @@ pub q-J90 : Quiet J90
 unfolding J90
 q-J90 = q-bind (q-takeAs _) λ n. q-push _
 
-pub q-integerAt : (c : ℕ) → Quiet (integerAt c)
-unfolding integerAt
-q-integerAt c = q-bind (q-termAt c) λ t. q-ret _
+q-pairAt : (c d : ℕ) → Quiet (pairAt c d)
+unfolding pairAt
+q-pairAt c d = q-bind (q-termAt c) λ t. q-bind (q-termAt d) λ u. q-seq (q-check _ _ tt) (q-ret _)
 
 q-putTerm : (c : ℕ) (t : Term) → Quiet (putTerm c t)
 unfolding putTerm
 q-putTerm c t = q-seq (q-check _ _ tt) (q-put _ _)
 
-pub q-combines : (f : ℤ → ℤ → ℤ) → Quiet (combines f)
+pub q-combines : (f : Operation) → Quiet (combines f)
 unfolding combines
-q-combines f = q-bind (q-own _) λ w0. q-bind (q-below _ w0) λ w1. q-bind (q-below _ w1) λ w2. q-seq (q-termTo _) (q-bind (q-integerAt _) λ a.
-    q-bind (q-integerAt _) λ b. q-seq (q-putTerm _ _) (q-gives 3 _))
+q-combines f = q-bind (q-own _) λ w0. q-bind (q-below _ w0) λ w1. q-bind (q-below _ w1) λ w2. q-seq (q-termTo _) (q-bind (q-pairAt _ _) λ p.
+    q-seq (q-putTerm _ _) (q-gives 3 _))
 
-pub q-compares : (f : ℤ → ℤ → Bool) → Quiet (compares f)
+pub q-compares : (r : Relation) → Quiet (compares r)
 unfolding compares
-q-compares f = q-bind (q-own _) λ w0. q-bind (q-below _ w0) λ w1. q-bind (q-integerAt _) λ a. q-bind (q-integerAt _) λ b. q-tests 2 _
+q-compares r = q-bind (q-own _) λ w0. q-bind (q-below _ w0) λ w1. q-bind (q-pairAt _ _) λ p. q-tests 2 _
 
-pub q-compares0 : (f : ℤ → ℤ → Bool) → Quiet (compares0 f)
+pub q-compares0 : (r : Relation) → Quiet (compares0 r)
 unfolding compares0
-q-compares0 f = q-bind (q-own _) λ w0. q-bind (q-integerAt _) λ a. q-tests 1 _
+q-compares0 r = q-bind (q-own _) λ w0. q-bind (q-termAt _) λ t. q-tests 1 _
 
 pub q-J120 : Quiet J120
 unfolding J120
 q-J120 = q-bind (q-own _) λ w0. q-bind (q-termAt _) λ t. q-bind (q-takeAs _) λ n. q-gives 1 _
 
-pub q-changes : (f : ℤ → ℤ) → Quiet (changes f)
+pub q-changes : (takes : Term → Bool) (f : Term → Term) → Quiet (changes takes f)
 unfolding changes
-q-changes f = q-bind (q-own _) λ w0. q-bind (q-termTo _) λ t. q-seq (q-putTerm _ _) (q-gives 1 _)
+q-changes takes f = q-bind (q-own _) λ w0. q-bind (q-termTo _) λ t. q-seq (q-check _ _ tt) (q-seq (q-putTerm _ _) (q-gives 1 _))
 
 pub q-J124 : Quiet J124
 unfolding J124

@@ -5,7 +5,7 @@ use Rattle.paper.specs.Limits.{halfRange, largestBudget}
 use Rattle.paper.specs.declared.LoadAnswer.the-variants.{Loaded}
 use Rattle.paper.specs.declared.RunAnswer.{RunAnswer}
 use Rattle.paper.specs.Step.{Res, done, refused}
-use Rattle.paper.specs.Cell.{Term, integer, integerIn, Cell, termIn, cellAt, tallyIn, H, State}
+use Rattle.paper.specs.Cell.{Term, integer, floating, integerIn, Cell, termIn, cellAt, tallyIn, H, State}
 use Rattle.paper.specs.Act.{Act, Refusal}
 use Rattle.paper.specs.Process.{perform}
 use Rattle.paper.specs.Cycle.{wrapped, oneMore, work, cycle}
@@ -32,10 +32,10 @@ counts : {F : Frame} {s : State} → Sound F s → tallyIn (s .cells) ≡ intege
 counts i = ap (λ x. integerIn (termIn x)) (i .tally)
 
 one-is : (t : Term) → integerIn (oneMore t) ≡ wrapped (integerIn t +ℤ pos 1)
-one-is (integer z) = refl
+one-is t = refl
 
 later-is : (k : ℕ) (t : Term) → integerIn (later k t) ≡ wrapped (integerIn t +ℤ pos k)
-later-is k (integer z) = refl
+later-is k t = refl
 
 -- an accepted cycle counts one more, step 2 as much as step 3
 pub cycle-counts : (s : State) → Runnable s → After (cycle s) (λ a t. tallyIn (t .cells) ≡ wrapped (tallyIn (s .cells) +ℤ pos 1))
@@ -97,6 +97,7 @@ module _ (s : State) (r : Runnable s) where
     where
       in-range : (t : Term) → TermRange t → mag (integerIn t) < halfRange
       in-range (integer z) h = h
+      in-range (floating b) h = omega arith
 
   few-cycles : (budget : ℕ) → run budget s .cycles ≤ largestBudget
   few-cycles budget =

@@ -1,7 +1,7 @@
 -- The arithmetic of the tally: so many more, wrapped.
-use Rattle.paper.proofs.Kit.{_≡_, refl, ap, _∙_, ℕ, zero, suc, _+_, _-_, _<_, arith, ℤ, pos, negsuc, _+ℤ_, +ℤ-one, +ℤ-assoc, +ℤ-idr, sucℤ, mag}
+use Rattle.paper.proofs.Kit.{_≡_, refl, ap, _∙_, ℕ, zero, suc, _+_, _-_, _<_, arith, clash, true, ℤ, pos, negsuc, _+ℤ_, +ℤ-one, +ℤ-assoc, +ℤ-idr, sucℤ, mag}
 use Rattle.paper.specs.Limits.{halfRange}
-use Rattle.paper.specs.Cell.{Term, integer}
+use Rattle.paper.specs.Cell.{Term, integer, floating, isInteger, integerIn}
 use Rattle.paper.specs.Cycle.{wrapped, oneMore}
 use Rattle.paper.proofs.SoundStore.{TermRange}
 
@@ -23,20 +23,22 @@ wrapped-more (negsuc n) k = refl
 
 -- the count k cycles later
 abbrev pub later : ℕ → Term → Term
-later k (integer z) = integer (wrapped (z +ℤ pos k))
+later k t = integer (wrapped (integerIn t +ℤ pos k))
 
-pub later-none : (t : Term) → TermRange t → later 0 t ≡ t
-later-none (integer z) h = ap integer (ap wrapped (+ℤ-idr z) ∙ wrapped-is z h)
+pub later-none : (t : Term) → isInteger t ≡ true → TermRange t → later 0 t ≡ t
+later-none (integer z) e h = ap integer (ap wrapped (+ℤ-idr z) ∙ wrapped-is z h)
+later-none (floating b) e h = clash cc
 
 pub later-more : (k : ℕ) (t : Term) → later k (oneMore t) ≡ later (suc k) t
-later-more k (integer z) = ap integer (wrapped-more (z +ℤ pos 1) k ∙ ap wrapped (+ℤ-assoc z (pos 1) (pos k) ∙ ap (λ m. z +ℤ pos m) e))
+later-more k t = let z = integerIn t in ap integer (wrapped-more (z +ℤ pos 1) k ∙ ap wrapped (+ℤ-assoc z (pos 1) (pos k) ∙ ap (λ m. z +ℤ pos m) e))
   where
     e : 1 + k ≡ suc k
     e = omega arith
 
 -- one more is within 32 bits again
-pub one-more : (t : Term) → TermRange t → TermRange (oneMore t)
-one-more (integer z) h = rw (+ℤ-one z) (go z h)
+pub one-more : (t : Term) → isInteger t ≡ true → TermRange t → TermRange (oneMore t)
+one-more (floating b) e h = clash cc
+one-more (integer z) e h = rw (+ℤ-one z) (go z h)
   where
     go : (z : ℤ) → mag z < halfRange → mag (wrapped (sucℤ z)) < halfRange
     go (pos n) h = omega arith
