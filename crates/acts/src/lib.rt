@@ -11,8 +11,8 @@ ghost use Rattle.paper.specs.Act.{own, touch, target, wordAt, wordTo, termAt, t
 ghost use Rattle.paper.specs.Act.{linkBelow, preserve, hasBelow, pullUp};
 ghost use Rattle.paper.specs.Act.{restore, store, ownPreserve, ownRestore, ownStore, push, pop, below, pops, gives, symbolIn, symbolInThat};
 ghost use Rattle.paper.specs.Act.{designate};
-ghost use Rattle.paper.specs.Process.{integerAt, sign, setH5, tests, copyName};
-ghost use Rattle.cells.specs.Layout.{unpackOf, wordOf, valueOf, termOf};
+ghost use Rattle.paper.specs.Process.{sign, setH5, tests, copyName};
+ghost use Rattle.cells.specs.Layout.{unpackOf, wordOf, termOf};
 ghost use Rattle.cells.specs.Pack.{packOf};
 ghost use Rattle.undo.specs.Log.{Room, writes};
 ghost use Rattle.undo.specs.Did.{Judged, Always, Top, Suits, reservedBy, nameBy, Sees, Reads, Did};
@@ -21,15 +21,10 @@ ghost use Rattle.acts.specs.Named.{namedTo};
 use paper::Symbol;
 use paper::limits;
 
-// The verdict, and a value: the number of a cell or a word, the bits of a term, a cell's place, a symbol.
+// The verdict, and a value: the number of a cell, a word or a term, a cell's place, a symbol.
 pub struct Got {
     pub go: u32,
     pub x: u64,
-}
-
-pub struct GotTerm {
-    pub go: u32,
-    pub v: u32,
 }
 
 pub struct GotCell {
@@ -129,51 +124,43 @@ pub fn word_to(cells: &[u64], go: u32, c: u16) -> Got
     word_at(cells, go, c)
 }
 
-pub fn term_at(cells: &[u64], go: u32, c: u16) -> GotTerm
-    ensures { λ r. ⌜ Reads Always (termAt c) cells go (r .go) (termOf (r .v)) ⌝ }
+pub fn term_at(cells: &[u64], go: u32, c: u16) -> Got
+    ensures { λ r. ⌜ Reads Always (termAt c) cells go (r .go) (termOf (r .x)) ⌝ }
 {
     if go != 0 {
-        return GotTerm { go: go, v: 0 };
+        return Got { go: go, x: 0 };
     }
     if c == 0 {
-        return GotTerm {
+        return Got {
             go: undo::refused(21, 0),
-            v: 0,
+            x: 0,
         };
     }
     let x = cells::peek(cells, c);
     if cells::is_term(x) {
-        return GotTerm {
+        return Got {
             go: go,
-            v: cells::term_in(x),
+            x: cells::term_in(x),
         };
     }
     if cells::is_free(x) {
-        return GotTerm {
+        return Got {
             go: undo::refused(22, c),
-            v: 0,
+            x: 0,
         };
     }
-    GotTerm {
+    Got {
         go: undo::refused(23, c),
-        v: 0,
+        x: 0,
     }
 }
 
-pub fn term_to(cells: &[u64], go: u32, c: u16) -> GotTerm
-    ensures { λ r. ⌜ Reads Always (termTo c) cells go (r .go) (termOf (r .v)) ⌝ }
+pub fn term_to(cells: &[u64], go: u32, c: u16) -> Got
+    ensures { λ r. ⌜ Reads Always (termTo c) cells go (r .go) (termOf (r .x)) ⌝ }
 {
     if c == limits::H3 {
-        let t = target(cells, go, c);
-        return GotTerm { go: t.go, v: 0 };
+        return target(cells, go, c);
     }
-    term_at(cells, go, c)
-}
-
-// A term of the one sort is its integer.
-pub fn integer_at(cells: &[u64], go: u32, c: u16) -> GotTerm
-    ensures { λ r. ⌜ Reads Always (integerAt c) cells go (r .go) (valueOf (r .v)) ⌝ }
-{
     term_at(cells, go, c)
 }
 

@@ -4,7 +4,7 @@ use Prim.Native.Nat.{ℕ, suc, _+_, _-_, _*_, _^_, _<_, _≤_}
 use mathlib.Core.Path.{_≡_}
 use mathlib.Core.List.{List, [], _∷_, map}
 use lib.IntN.{ℤ, pos, negsuc}
-use Rattle.paper.specs.Cell.{Word, mkWord, Term, integer, Cell, free, word, term, process}
+use Rattle.paper.specs.Cell.{Word, mkWord, Term, integer, floating, Cell, free, word, term, process}
 use Rattle.cells.specs.Layout.{unpackOf}
 use Rattle.cells.specs.declared.Cell.{Cell as CodeCell}
 use Rattle.cells.specs.declared.Cell.the-variants.{Free, Word as AWord, Term as ATerm, Process}
@@ -16,6 +16,7 @@ excess (negsuc n) = 2 ^ 31 - suc n
 
 abbrev pub termBits : Term → ℕ
 termBits (integer z) = excess z
+termBits (floating b) = 2 ^ 32 + b
 
 abbrev pub packOf : Cell → ℕ
 packOf (free l) = 2 ^ 48 + l
@@ -36,6 +37,7 @@ IntegerFits (negsuc n) = n < 2 ^ 31
 
 abbrev pub TermFits : Term → Type 0
 TermFits (integer z) = IntegerFits z
+TermFits (floating b) = b < 2 ^ 32
 
 abbrev pub CellFits : Cell → Type 0
 CellFits (free l) = l < 2 ^ 16
@@ -47,7 +49,7 @@ CellFits process = Unit {0}
 pub data Valid (x : ℕ) : Type 0 where
   a-word : x < 2 ^ 48 → Valid x
   a-free : 2 ^ 48 ≤ x → x < 2 ^ 48 + 2 ^ 16 → Valid x
-  a-term : 2 * 2 ^ 48 ≤ x → x < 2 * 2 ^ 48 + 2 ^ 32 → Valid x
+  a-term : 2 * 2 ^ 48 ≤ x → x < 2 * 2 ^ 48 + 2 ^ 33 → Valid x
   a-process : x ≡ 3 * 2 ^ 48 → Valid x
 
 -- r is the number of the cell x

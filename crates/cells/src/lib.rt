@@ -2,7 +2,8 @@
 ghost use mathlib.Core.Path.{_≡_};
 ghost use Rattle.paper.specs.Cell.{word, free, term, process, mkWord, withLink, withSymbol, symbolOf, isFree, isWord, isTerm, isProcess};
 ghost use Rattle.paper.specs.Cell.{wordIn, termIn, freeLink};
-ghost use Rattle.cells.specs.Layout.{unpackOf, wordOf, termOf};
+ghost use Rattle.paper.specs.Term.{integer, isInteger, integerIn, alike};
+ghost use Rattle.cells.specs.Layout.{unpackOf, wordOf, valueOf, termOf};
 ghost use Rattle.cells.specs.Pack.{Packs, cellOf};
 ghost use Rattle.cells.specs.Bridge.{cellIn};
 
@@ -28,7 +29,13 @@ pub const PROCESS: u64 = 0x3000000000000;
 // P 0, the empty symbol, LINK 0.
 pub const EMPTY: u64 = (Symbol::EMPTY.tag as u64) * Q + (Symbol::EMPTY.num as u64) * SYMB;
 
-// The integer 0, as its value + 2^31.
+// The sort of a data term, above its 32 bits: none for an integer, which stands as its value + 2^31, and this for a floating term.
+pub const FLOATING: u64 = 0x100000000;
+
+// The sorts' places end here.
+pub const SORTS: u64 = 0x200000000;
+
+// The integer 0.
 pub const ZERO: u32 = 0x80000000;
 
 pub struct Word {
@@ -38,11 +45,11 @@ pub struct Word {
     pub link: u16,
 }
 
-// A cell taken apart. A data term is its 32 bits: an integer as its value + 2^31, as everywhere in the code.
+// A cell taken apart. A data term is any number: only its sort and its 32 bits count, as everywhere in the code.
 pub enum Cell {
     Free(u16),
     Word(Word),
-    Term(u32),
+    Term(u64),
     Process,
 }
 
@@ -95,14 +102,34 @@ pub fn word_in(x: u64) -> u64
 }
 
 // The data term in a cell; the integer 0 where there is none.
-pub fn term_in(x: u64) -> u32
+pub fn term_in(x: u64) -> u64
     ensures { λ r. ⌜ termIn (unpackOf x) ≡ termOf r ⌝ }
 {
-    if x < TERM {
-        return ZERO;
+    if TERM <= x && x < PROCESS {
+        return x;
     }
-    if x < PROCESS {
-        return (x % Q) as u32;
+    ZERO as u64
+}
+
+// Whether two terms are of one sort.
+pub fn alike(x: u64, y: u64) -> bool
+    ensures { λ r. ⌜ r ≡ alike (termOf x) (termOf y) ⌝ }
+{
+    x % SORTS / FLOATING == y % SORTS / FLOATING
+}
+
+pub fn is_integer(x: u64) -> bool
+    ensures { λ r. ⌜ r ≡ isInteger (termOf x) ⌝ }
+{
+    x % SORTS < FLOATING
+}
+
+// The integer of a term; of a floating one, 0.
+pub fn integer_in(x: u64) -> u32
+    ensures { λ r. ⌜ integerIn (termOf x) ≡ valueOf r ⌝ }
+{
+    if is_integer(x) {
+        return (x % FLOATING) as u32;
     }
     ZERO
 }
@@ -159,8 +186,14 @@ pub fn of_free(l: u16) -> u64
     FREE + (l as u64)
 }
 
-pub fn of_term(v: u32) -> u64
-    ensures { λ r. ⌜ Packs r (term (termOf v)) ⌝ }
+pub fn of_term(x: u64) -> u64
+    ensures { λ r. ⌜ Packs r (term (termOf x)) ⌝ }
+{
+    TERM + x % SORTS
+}
+
+pub fn of_integer(v: u32) -> u64
+    ensures { λ r. ⌜ Packs r (term (integer (valueOf v))) ⌝ }
 {
     TERM + (v as u64)
 }
@@ -186,7 +219,7 @@ pub fn unpack(x: u64) -> Cell
         return Cell::Free((x % 65536) as u16);
     }
     if x < PROCESS {
-        return Cell::Term((x % Q) as u32);
+        return Cell::Term(x);
     }
     Cell::Process
 }
@@ -197,7 +230,7 @@ pub fn pack(c: Cell) -> u64
     match c {
         Cell::Free(l) => of_free(l),
         Cell::Word(w) => of_fields(w.p, w.q, w.symb, w.link),
-        Cell::Term(v) => of_term(v),
+        Cell::Term(x) => of_term(x),
         Cell::Process => of_process(),
     }
 }

@@ -5,7 +5,8 @@ ghost use Rattle.cells.specs.Layout.{unpackOf};
 ghost use Rattle.cells.specs.Pack.{Packs};
 use crate::TERM;
 use crate::ZERO;
-use crate::of_term;
+use crate::integer_in;
+use crate::of_integer;
 use crate::term_in;
 
 // The bits of 2,147,483,647, after which comes 0 again; and the numbers of 0 and of it.
@@ -22,9 +23,9 @@ pub fn one_more(x: u64) -> u64
     if FIRST <= x && x < LAST {
         return x + 1;
     }
-    let v = term_in(x);
+    let v = integer_in(term_in(x));
     if v == LARGEST {
-        return of_term(ZERO);
+        return of_integer(ZERO);
     }
-    of_term(v + 1)
+    of_integer(v + 1)
 }

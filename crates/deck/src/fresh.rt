@@ -54,7 +54,7 @@ fn fresh_cell(size: usize, end: usize, c: usize) -> u64
         return cells::of_fields(0, x.tag, x.num, next_free(size, end));
     }
     if c == H3 {
-        return cells::of_term(cells::ZERO);
+        return cells::of_integer(cells::ZERO);
     }
     if c < J0 {
         return cells::EMPTY;

@@ -106,18 +106,18 @@ fn load_routine(
     t
 }
 
-// Kind 4.
-fn load_integer(
+// Kinds 4 and 6.
+fn load_term(
     cells: &mut [u64],
     names: &mut [bool],
     locals: &mut Locals,
     regions: Regions,
     notes: Notes,
     name: Name,
-    v: u32,
+    t: u64,
 ) -> Placed
     requires { ⌜ Made regions ⌝ }
-    ensures { λ r. ⌜ Places (ordinary (loadInteger (nameOf name) (valueOf v))) regions notes locals cells names r ⌝ }
+    ensures { λ r. ⌜ Places (ordinary (loadTerm (nameOf name) (termOf t))) regions notes locals cells names r ⌝ }
 {
     let go = book::name_fits(names, locals, regions, notes, 0, false, name);
     let n = book::cell_for(cells, names, locals, regions, notes, go, name);
@@ -125,7 +125,7 @@ fn load_integer(
     Placed {
         go: n.go,
         last: false,
-        notes: book::fill(cells, notes, n.c, cells::of_term(v), false),
+        notes: book::fill(cells, notes, n.c, cells::of_term(t), false),
         regions: regions,
     }
 }
@@ -220,7 +220,7 @@ fn load_record(
             };
             load_word(cells, names, locals, regions, notes, name, w)
         }
-        Record::Number(name, v) => load_integer(cells, names, locals, regions, notes, name, v),
+        Record::Number(name, t) => load_term(cells, names, locals, regions, notes, name, t),
         Record::Start(b, n) => Placed {
             go: load_start(cells, locals, regions, notes, b, n),
             last: true,

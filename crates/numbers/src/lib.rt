@@ -1,13 +1,16 @@
-// The processes on integers, J110 to J125, line by line the blocks of paper/specs/Process, and the decision over their numbers. An integer
-// is its value + 2^31. What an operation gives may not fit 32 bits: it stands 2^32 higher (`wideOf`), so that it is never below 0.
+// The processes on data terms, J110 to J125, line by line the blocks of paper/specs/Process, and the decision over their numbers. Each is one
+// function for both sorts; the sorts part in `combined`, `negated` and `holds` alone.
 ghost use Prim.Native.Nat.{_≤_};
 ghost use mathlib.Core.Path.{_≡_};
-ghost use Rattle.paper.specs.Cell.{integer};
-ghost use Rattle.paper.specs.Process.{putTerm, combines, compares, compares0, J120, changes, J124, perform, then as andThen, goesOn};
-ghost use Rattle.cells.specs.Layout.{valueOf};
+ghost use Rattle.paper.specs.Term.{combined, holds, withZero, negated, plusOne};
+ghost use Rattle.paper.specs.Process.{pairAt, putTerm, combines, compares, compares0, J120, changes, J124, perform, then as andThen, goesOn};
+ghost use Rattle.cells.specs.Layout.{valueOf, termOf};
+ghost use Rattle.floats.specs.Kept.{operationOf, relationOf};
 ghost use Rattle.undo.specs.Log.{Room};
-ghost use Rattle.undo.specs.Did.{Always, Top, Suits, Did};
-ghost use Rattle.numbers.specs.Family.{operationOf, changeOf, relationOf, wideOf};
+ghost use Rattle.undo.specs.Did.{Always, Top, Suits, Reads, Did};
+ghost use Rattle.numbers.specs.Family.{takesOf, changeOf, wideOf, pairIn, Gives};
+use floats::Kept;
+use floats::Relation;
 use paper::limits;
 
 // 2^31 and 2^32, and the integer 0 as an operation gives it.
@@ -17,11 +20,22 @@ const WHOLE: u64 = 0x100000000;
 
 const WIDE_ZERO: u64 = 0x180000000;
 
-// How (0) is to stand to (1), or to zero.
-enum Relation {
-    Equal,
-    Above,
-    Below,
+// Two terms of one sort, each in 32 bits: integers as their value + 2^31.
+struct Pair {
+    floating: bool,
+    a: u32,
+    b: u32,
+}
+
+struct GotPair {
+    go: u32,
+    pair: Pair,
+}
+
+// What an operation gives: the number of a term, or none that fits.
+enum Given {
+    Term(u64),
+    Nothing,
 }
 
 // J110 to J129, of which those named are listed.
@@ -46,9 +60,25 @@ pub fn on_numbers(cells: &mut [u64], log: &mut [u64], go: u32, top: u16, j: u16)
     }
 }
 
-// The sum, or the difference where `minus` holds.
-fn combined(minus: bool, u: u32, v: u32) -> u64
-    ensures { λ r. ⌜ wideOf r ≡ operationOf minus (valueOf u) (valueOf v) ⌝ }
+// Two terms are met, and are to be of one sort: 23 at the second.
+fn pair_at(cells: &[u64], go: u32, c: u16, d: u16) -> GotPair
+    ensures { λ r. ⌜ Reads Always (pairAt c d) cells go (r .go) (pairIn (r .pair)) ⌝ }
+{
+    let t = acts::term_at(cells, go, c);
+    let u = acts::term_at(cells, t.go, d);
+    GotPair {
+        go: undo::refuse_if(u.go, !cells::alike(t.x, u.x), 23, d),
+        pair: Pair {
+            floating: !cells::is_integer(t.x),
+            a: (t.x % cells::FLOATING) as u32,
+            b: (u.x % cells::FLOATING) as u32,
+        },
+    }
+}
+
+// The sum, or the difference where `minus` holds. It may not fit 32 bits: it stands 2^32 higher (`wideOf`), so that it is never below 0.
+fn reckoned(minus: bool, u: u32, v: u32) -> u64
+    ensures { λ r. ⌜ wideOf r ≡ operationOf minus .ofIntegers (valueOf u) (valueOf v) ⌝ }
 {
     if minus {
         return WIDE_ZERO + (u as u64) - (v as u64);
@@ -57,18 +87,65 @@ fn combined(minus: bool, u: u32, v: u32) -> u64
     HALF + (u as u64) + (v as u64)
 }
 
-// One more, or the negative where `negate` holds.
-fn changed(negate: bool, u: u32) -> u64
-    ensures { λ r. ⌜ wideOf r ≡ changeOf negate (valueOf u) ⌝ }
+// An integer fits where it is 2^32 and an integer's number.
+fn of_wide(x: u64) -> Given
+    ensures { λ r. ⌜ Gives r (integer (wideOf x)) ⌝ }
 {
-    if negate {
-        return combined(true, cells::ZERO, u);
+    if x / WHOLE == 1 {
+        return Given::Term(x % WHOLE);
     }
-    combined(false, u, cells::ZERO + 1)
+    Given::Nothing
 }
 
-fn holds(k: Relation, u: u32, v: u32) -> bool
-    ensures { λ r. ⌜ r ≡ relationOf k (valueOf u) (valueOf v) ⌝ }
+fn of_kept(k: Kept) -> Given
+    ensures { λ r. ⌜ Keeps r k ⌝ }
+{
+    match k {
+        Kept::Bits(b) => Given::Term(cells::FLOATING + (b as u64)),
+        Kept::NotFinite => Given::Nothing,
+    }
+}
+
+// J110, and J111 where `minus` holds, on two terms.
+fn combined(minus: bool, p: Pair) -> Given
+    ensures { λ r. ⌜ Gives r (combined (operationOf minus) (pairIn p)) ⌝ }
+{
+    if p.floating {
+        return of_kept(floats::combined(minus, p.a, p.b));
+    }
+    of_wide(reckoned(minus, p.a, p.b))
+}
+
+// J123.
+fn negated(x: u64) -> Given
+    ensures { λ r. ⌜ Gives r (negated (termOf x)) ⌝ }
+{
+    let v = (x % cells::FLOATING) as u32;
+    if cells::is_integer(x) {
+        return of_wide(reckoned(true, cells::ZERO, v));
+    }
+    of_kept(floats::negated(v))
+}
+
+// J125, or J123 where `negate` holds.
+fn changed(negate: bool, x: u64) -> Given
+    ensures { λ r. ⌜ Gives r (changeOf negate (termOf x)) ⌝ }
+{
+    if negate {
+        return negated(x);
+    }
+    of_wide(reckoned(false, cells::integer_in(x), cells::ZERO + 1))
+}
+
+// J123 takes either sort, "J125 stays with integers".
+fn takes(negate: bool, x: u64) -> bool
+    ensures { λ r. ⌜ r ≡ takesOf negate (termOf x) ⌝ }
+{
+    negate || cells::is_integer(x)
+}
+
+fn stands(k: Relation, u: u32, v: u32) -> bool
+    ensures { λ r. ⌜ r ≡ relationOf k .ofIntegers (valueOf u) (valueOf v) ⌝ }
 {
     match k {
         Relation::Equal => u == v,
@@ -77,19 +154,49 @@ fn holds(k: Relation, u: u32, v: u32) -> bool
     }
 }
 
-// An integer that an operation gives: it fits where it is 2^32 and an integer's number.
-fn put_term(cells: &mut [u64], log: &mut [u64], go: u32, c: u16, x: u64) -> u32
+fn holds(k: Relation, p: Pair) -> bool
+    ensures { λ r. ⌜ r ≡ holds (relationOf k) (pairIn p) ⌝ }
+{
+    if p.floating {
+        return floats::holds(k, p.a, p.b);
+    }
+    stands(k, p.a, p.b)
+}
+
+// A term and the zero of its sort.
+fn with_zero(x: u64) -> Pair
+    ensures { λ r. ⌜ pairIn r ≡ withZero (termOf x) ⌝ }
+{
+    let a = (x % cells::FLOATING) as u32;
+    if cells::is_integer(x) {
+        return Pair {
+            floating: false,
+            a: a,
+            b: cells::ZERO,
+        };
+    }
+    Pair {
+        floating: true,
+        a: a,
+        b: 0,
+    }
+}
+
+// A term that an operation gives: 29 where none fits.
+fn put_term(cells: &mut [u64], log: &mut [u64], go: u32, c: u16, given: Given) -> u32
     requires { ⌜ Room (now log) 1 ⌝ }
-    ensures { λ r. ⌜ Did Always 1 (putTerm c (integer (wideOf x))) cells log go r tt ⌝ }
+    ensures { λ r. ⌜ (t : Term) → Gives given t → Did Always 1 (putTerm c t) cells log go r tt ⌝ }
 {
     if go != 0 {
         return go;
     }
-    if x / WHOLE != 1 {
-        return undo::refused(29, c);
+    match given {
+        Given::Term(x) => {
+            undo::put(cells, log, go, c, cells::of_term(x));
+            go
+        }
+        Given::Nothing => undo::refused(29, c),
     }
-    undo::put(cells, log, go, c, cells::of_term((x % WHOLE) as u32));
-    go
 }
 
 // J110, and J111 where `minus` holds. "Cells that inputs name are met in the order (0), (1), (2)."
@@ -103,9 +210,8 @@ fn combines(cells: &mut [u64], log: &mut [u64], go: u32, top: u16, minus: bool) 
     let c0 = (w0 / cells::SYMB % 65536) as u16;
     let c1 = (g1.x / cells::SYMB % 65536) as u16;
     let t0 = acts::term_to(cells, g2.go, c0);
-    let i1 = acts::integer_at(cells, t0.go, c1);
-    let i2 = acts::integer_at(cells, i1.go, (g2.x / cells::SYMB % 65536) as u16);
-    let go = put_term(cells, log, i2.go, c0, combined(minus, i1.v, i2.v));
+    let p = pair_at(cells, t0.go, c1, (g2.x / cells::SYMB % 65536) as u16);
+    let go = put_term(cells, log, p.go, c0, combined(minus, p.pair));
     acts::gives3(cells, log, go, top, cells::symbol(w0))
 }
 
@@ -116,9 +222,9 @@ fn compares(cells: &mut [u64], log: &mut [u64], go: u32, top: u16, k: Relation) 
 {
     let w0 = acts::own(cells, limits::H0);
     let g = acts::below(cells, go, limits::H0, w0);
-    let i0 = acts::integer_at(cells, g.go, (w0 / cells::SYMB % 65536) as u16);
-    let i1 = acts::integer_at(cells, i0.go, (g.x / cells::SYMB % 65536) as u16);
-    acts::tests2(cells, log, i1.go, top, holds(k, i0.v, i1.v))
+    let c0 = (w0 / cells::SYMB % 65536) as u16;
+    let p = pair_at(cells, g.go, c0, (g.x / cells::SYMB % 65536) as u16);
+    acts::tests2(cells, log, p.go, top, holds(k, p.pair))
 }
 
 // J117, J118, J119.
@@ -127,30 +233,31 @@ fn compares0(cells: &mut [u64], log: &mut [u64], go: u32, top: u16, k: Relation)
     ensures { λ r. ⌜ Did (Top top) 1 (compares0 (relationOf k)) cells log go r tt ⌝ }
 {
     let w0 = acts::own(cells, limits::H0);
-    let i = acts::integer_at(cells, go, (w0 / cells::SYMB % 65536) as u16);
-    acts::tests1(cells, log, i.go, top, holds(k, i.v, cells::ZERO))
+    let t = acts::term_at(cells, go, (w0 / cells::SYMB % 65536) as u16);
+    acts::tests1(cells, log, t.go, top, holds(k, with_zero(t.x)))
 }
 
-// "copy integer, named as J74 names"
+// "copy integer, named as J74 names", or a floating term
 fn j120(cells: &mut [u64], log: &mut [u64], go: u32, top: u16) -> u32
     requires { ⌜ Suits (now log) 3 top ⌝ }
     ensures { λ r. ⌜ Did (Top top) 3 J120 cells log go r tt ⌝ }
 {
     let w0 = acts::own(cells, limits::H0);
     let t = acts::term_at(cells, go, (w0 / cells::SYMB % 65536) as u16);
-    let n = acts::take_as(cells, log, t.go, cells::of_term(t.v));
+    let n = acts::take_as(cells, log, t.go, cells::of_term(t.x));
     acts::gives1(cells, log, n.go, top, acts::copy_name(w0, n.c))
 }
 
 // J125, and J123 where `negate` holds.
 fn changes(cells: &mut [u64], log: &mut [u64], go: u32, top: u16, negate: bool) -> u32
     requires { ⌜ Suits (now log) 3 top ⌝ }
-    ensures { λ r. ⌜ Did (Top top) 3 (changes (changeOf negate)) cells log go r tt ⌝ }
+    ensures { λ r. ⌜ Did (Top top) 3 (changes (takesOf negate) (changeOf negate)) cells log go r tt ⌝ }
 {
     let w0 = acts::own(cells, limits::H0);
     let c = (w0 / cells::SYMB % 65536) as u16;
     let t = acts::term_to(cells, go, c);
-    let go = put_term(cells, log, t.go, c, changed(negate, t.v));
+    let go = undo::refuse_if(t.go, !takes(negate, t.x), 23, c);
+    let go = put_term(cells, log, go, c, changed(negate, t.x));
     acts::gives1(cells, log, go, top, cells::symbol(w0))
 }
 
@@ -164,6 +271,6 @@ fn j124(cells: &mut [u64], log: &mut [u64], go: u32, top: u16) -> u32
     let g = acts::target(cells, go, c);
     let go = undo::refuse_if(g.go, cells::is_process(g.x), 23, c);
     let go = undo::refuse_if(go, acts::reserved(limits::J0, c), 23, c);
-    undo::put(cells, log, go, c, cells::of_term(cells::ZERO));
+    undo::put(cells, log, go, c, cells::of_integer(cells::ZERO));
     acts::gives1(cells, log, go, top, cells::symbol(w0))
 }

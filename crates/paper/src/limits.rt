@@ -1,4 +1,4 @@
-// The numbers of document 01, of CR 3 and CR 11 that bound something, as specs/Limits has them, and the cells that the machine names.
+// The numbers of document 01, of CR 3, CR 9 and CR 11 that bound something, as specs/Limits has them, and the cells that the machine names.
 
 // "N from 256"; CR 11: "Raise N to 65,535".
 pub const SMALLEST_N: usize = 256;
@@ -42,6 +42,9 @@ pub const MANY_REGIONS: usize = 23;
 pub const CELL_DIGITS: usize = 5;
 
 pub const MOST_DIGITS: usize = 10;
+
+// CR 9: "eight hex digits".
+pub const HEX_DIGITS: usize = 8;
 
 // The longest line, an integer's: `-`, its digits, a line feed.
 pub const LONGEST_LINE: usize = 1 + MOST_DIGITS + 1;

@@ -6,10 +6,10 @@ ghost use lib.ListN.{length, take};
 ghost use lib.Seq.{paste};
 ghost use Rattle.paper.specs.Limits.{cellDigits, longestSymbolLine, longestLine};
 ghost use Rattle.paper.specs.Region.{lettersOf};
-ghost use Rattle.paper.specs.Print.{digitsBy, integerText, cellText, localText, symbolText};
+ghost use Rattle.paper.specs.Print.{digitsBy, integerText, hexDigit, hexBy, termText, cellText, localText, symbolText};
 ghost use Rattle.paper.specs.Program.{answerLine};
 ghost use Rattle.paper.specs.Process.{J152, J153, perform, then as andThen, goesOn};
-ghost use Rattle.cells.specs.Layout.{valueOf};
+ghost use Rattle.cells.specs.Layout.{valueOf, termOf};
 ghost use Rattle.regions.specs.Lent.{rowsOf, Told};
 ghost use Rattle.undo.specs.Log.{Room};
 ghost use Rattle.printing.specs.Text.{Writes, Text, Puts};
@@ -78,6 +78,41 @@ fn integer_text(line: &mut Line, v: u32) -> usize
         return lettered(line, b'-', limits::MOST_DIGITS, cells::ZERO - v);
     }
     number(line, limits::MOST_DIGITS, v - cells::ZERO)
+}
+
+// A hex digit, in capitals.
+fn hex_digit(d: u8) -> u8
+    requires { ⌜ d < 16 ⌝ }
+    ensures { λ r. ⌜ r ≡ hexDigit d ⌝ }
+{
+    if d < 10 {
+        return b'0' + d;
+    }
+    b'A' + (d - 10)
+}
+
+// The last k hex digits of n.
+fn hex(line: &mut Line, at: usize, k: usize, n: u32) -> usize
+    requires { ⌜ (length (now line) ≡ longestLine) × (at + k ≤ longestLine) ⌝ }
+    ensures { λ r. ⌜ Writes (now (line .entry)) at (hexBy k n) (now (line .exit)) r ⌝ }
+{
+    if k == 0 {
+        return at;
+    }
+    let end = hex(line, at, k - 1, n / 16);
+    line[end] = hex_digit((n % 16) as u8);
+    end + 1
+}
+
+// A data term of either sort.
+fn term_text(line: &mut Line, x: u64) -> usize
+    requires { ⌜ length (now line) ≡ longestLine ⌝ }
+    ensures { λ r. ⌜ Text longestLine (now (line .entry)) (termText (termOf x)) (now (line .exit)) r ⌝ }
+{
+    if cells::is_integer(x) {
+        return integer_text(line, (x % cells::FLOATING) as u32);
+    }
+    hex(line, 0, limits::HEX_DIGITS, (x % cells::FLOATING) as u32)
 }
 
 // A cell by its letter and number, or by its number alone.
@@ -194,7 +229,7 @@ fn j152(
     print(cells, log, table, out, at, go, &mut line, n)
 }
 
-// "J153 an integer"
+// "J153 an integer", or a floating term
 fn j153(
     cells: &mut [u64],
     log: &mut [u64],
@@ -207,10 +242,10 @@ fn j153(
     ensures { λ r. ⌜ Prints J153 cells log table out at go r tt ⌝ }
 {
     let w = acts::own(cells, limits::H0);
-    let i = acts::integer_at(cells, go, (w / cells::SYMB % 65536) as u16);
+    let t = acts::term_at(cells, go, (w / cells::SYMB % 65536) as u16);
     let mut line: Line = [0; limits::LONGEST_LINE];
-    let n = integer_text(&mut line, i.v);
-    print(cells, log, table, out, at, i.go, &mut line, n)
+    let n = term_text(&mut line, t.x);
+    print(cells, log, table, out, at, t.go, &mut line, n)
 }
 
 // J152 or J153.

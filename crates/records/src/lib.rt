@@ -7,9 +7,9 @@ ghost use lib.Dec.{leb};
 ghost use Rattle.paper.specs.Limits.{largestNumber, largestP};
 ghost use Rattle.paper.specs.Region.{isLetter};
 ghost use Rattle.paper.specs.Record.{region, routine, datum, number, byteAt, pairAt, field, fieldAt, sizeOf, nameAs, maySymb, mayLinkData};
-ghost use Rattle.paper.specs.Record.{given, guard, signed32, startWith, recordAt};
+ghost use Rattle.paper.specs.Record.{given, guard, signed32, asInteger, asFloating, startWith, recordAt};
 ghost use Rattle.cells.specs.Layout.{valueOf};
-ghost use Rattle.records.specs.Symbols.{readOf, nameReadOf, recordOf, parsedOf, symbolsIn, symbolsAt, placeOf, Written};
+ghost use Rattle.records.specs.Symbols.{readOf, nameReadOf, termReadOf, recordOf, parsedOf, symbolsIn, symbolsAt, placeOf, Written};
 use paper::Field;
 use paper::limits;
 
@@ -22,12 +22,12 @@ pub enum Name {
     Blank,
 }
 
-// A record; an integer is its value + 2^31.
+// A record; a data term is its number, as in a cell.
 pub enum Record {
     Region(u8, u16),
     Routine(Name, u8, u8, Field, Field),
     Datum(Name, Field, Field),
-    Number(Name, u32),
+    Number(Name, u64),
     Start(u8, u16),
 }
 
@@ -46,6 +46,12 @@ pub enum Read {
 // A NAME; nothing where the symbol may not be one (4).
 enum NameRead {
     As(Name),
+    Nothing,
+}
+
+// A data term; nothing where it may not be one (4).
+enum TermRead {
+    As(u64),
     Nothing,
 }
 
@@ -111,6 +117,7 @@ pub fn size_of(kind: u8) -> usize
         3 => 10,
         4 => 8,
         5 => 4,
+        6 => 8,
         _ => 0,
     }
 }
@@ -249,14 +256,34 @@ fn long(high: u16, low: u16) -> u32
     (high as u32) * 65536 + (low as u32)
 }
 
-// "integer: NAME, signed 32 bits"
-fn number(named: NameRead, high: u16, low: u16) -> Parsed
-    ensures { λ x. ⌜ parsedOf x ≡ given (nameReadOf named) (λ name. some (number name (signed32 (high * 65536 + low)))) ⌝ }
+// "signed 32 bits"
+fn as_integer(n: u32) -> TermRead
+    ensures { λ x. ⌜ termReadOf x ≡ asInteger n ⌝ }
+{
+    TermRead::As(excess(n) as u64)
+}
+
+// "A deck term that is not finite is 4"
+fn as_floating(n: u32) -> TermRead
+    ensures { λ x. ⌜ termReadOf x ≡ asFloating n ⌝ }
+{
+    if floats::is_finite(n) {
+        return TermRead::As(cells::FLOATING + (n as u64));
+    }
+    TermRead::Nothing
+}
+
+// "integer: NAME, signed 32 bits"; CR 9: "the name and four bytes of the number's bits"
+fn number(named: NameRead, read: TermRead) -> Parsed
+    ensures { λ x. ⌜ parsedOf x ≡ given (nameReadOf named) (λ name. given (termReadOf read) (λ t. some (number name t))) ⌝ }
 {
     let NameRead::As(name) = named else {
         return Parsed::Nothing;
     };
-    Parsed::Is(Record::Number(name, excess(long(high, low))))
+    let TermRead::As(t) = read else {
+        return Parsed::Nothing;
+    };
+    Parsed::Is(Record::Number(name, t))
 }
 
 // "start symbol, regional"
@@ -283,8 +310,9 @@ pub fn parse(r: &[u8], kind: u8, symbols: [Field; 3]) -> Parsed
         1 => region(byte_at(r, 1), pair_at(r, 2)),
         2 => routine(name_as(first), byte_at(r, 4), byte_at(r, 5), symb, link),
         3 => datum(name_as(first), symb, link),
-        4 => number(name_as(first), pair_at(r, 4), pair_at(r, 6)),
+        4 => number(name_as(first), as_integer(long(pair_at(r, 4), pair_at(r, 6)))),
         5 => start(first),
+        6 => number(name_as(first), as_floating(long(pair_at(r, 4), pair_at(r, 6)))),
         _ => Parsed::Nothing,
     }
 }

@@ -38,6 +38,16 @@ fn word_sound(x: u64, n: usize, c: usize) -> bool
     (p <= LARGEST_P) & ((q == 0) | ((q == 1) & !hw) | (q == 2) | (q == 4)) & (symb < n) & (link < n)
 }
 
+// CR 8: "H3 is an integer"; CR 9: a floating term has no place below the deck's cells, and "a sound store holds finite ones only".
+fn term_sound(x: u64, c: usize) -> bool
+    ensures { λ r. ⌜ r ≡ termNumberSound c x ⌝ }
+{
+    if x < cells::TERM + cells::FLOATING {
+        return (c == H3) | (FIRST_DECK <= c);
+    }
+    (x < cells::TERM + cells::SORTS) & (FIRST_DECK <= c) & floats::is_finite((x % cells::FLOATING) as u32)
+}
+
 // Whether x may be the number of cell c, of n cells of which the reserved ones end at `end`.
 fn number_sound(x: u64, n: usize, end: usize, c: usize) -> bool
     ensures { λ r. ⌜ r ≡ numberSound n end c x ⌝ }
@@ -49,7 +59,7 @@ fn number_sound(x: u64, n: usize, end: usize, c: usize) -> bool
         return (x < cells::FREE + cells::SYMB) & (end <= c) & (((x % 65536) as usize) < n);
     }
     if x < cells::PROCESS {
-        return (x < cells::TERM + cells::Q) & ((c == H3) | (FIRST_DECK <= c));
+        return term_sound(x, c);
     }
     (x == cells::PROCESS) & (J0 <= c) & (c < FIRST_DECK)
 }

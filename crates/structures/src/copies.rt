@@ -154,7 +154,7 @@ fn copied(marks: &Marks, x: u64) -> u64
             scratch::mark_at(marks, w.link),
         ),
         Cell::Free(l) => cells::of_free(l),
-        Cell::Term(v) => cells::of_term(v),
+        Cell::Term(t) => cells::of_term(t),
         Cell::Process => cells::of_process(),
     }
 }
