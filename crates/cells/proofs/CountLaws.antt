@@ -1,10 +1,10 @@
 -- The number of a count: one more in the bits, but 0 after the last.
 use Rattle.paper.proofs.Kit.{ℕ, suc, _+_, _-_, _*_, _%_, _^_, _<_, _≤_, _≡_, refl, ap, arith, decLt, pos, negsuc, _+ℤ_, +ℤ-one, sucℤ}
-use Rattle.paper.specs.Cell.{Term, integer, term, termIn}
+use Rattle.paper.specs.Cell.{Term, integer, integerIn, term, termIn}
 use Rattle.paper.specs.Cycle.{wrapped, oneMore}
-use Rattle.cells.specs.Layout.{unpackOf, valueOf, termOf}
+use Rattle.cells.specs.Layout.{unpackOf, valueOf, sortOf, bitsOf, termOf}
 use Rattle.cells.specs.Pack.{Packs}
-use Rattle.cells.proofs.Laws.{unpack-term, value-low, value-high, packs-term}
+use Rattle.cells.proofs.Laws.{unpack-term, value-low, value-high, packs-integer}
 
 -- below 0; from 0 on
 low : (a : ℕ) → a < 2 ^ 31 → wrapped (valueOf a +ℤ pos 1) ≡ valueOf (suc a)
@@ -20,22 +20,24 @@ low a h = rw (+ℤ-one (valueOf a), value-low a h) (go (decLt (suc a) (2 ^ 31)))
 high : (a : ℕ) → 2 ^ 31 ≤ a → suc a < 2 ^ 32 → wrapped (valueOf a +ℤ pos 1) ≡ valueOf (suc a)
 high a h l = rw (value-high a h, value-high (suc a) (omega arith)) (ap pos (omega arith))
 
-pub next-bits : (a : ℕ) → suc a < 2 ^ 32 → oneMore (termOf a) ≡ termOf (suc a)
-next-bits a l = ap integer (go (decLt a (2 ^ 31)))
+pub next-bits : (a : ℕ) → suc a < 2 ^ 32 → wrapped (valueOf a +ℤ pos 1) ≡ valueOf (suc a)
+next-bits a l = go (decLt a (2 ^ 31))
   where
     go : Dec (a < 2 ^ 31) → wrapped (valueOf a +ℤ pos 1) ≡ valueOf (suc a)
     go (yes p) = low a p
     go (no p) = high a (omega arith) l
 
--- a term t whose bits are a, and the number of the next
-pub packs-next : (t : Term) (a : ℕ) {r : ℕ} {b : Term} → t ≡ termOf a → oneMore (termOf a) ≡ b → Packs r (term b) → Packs r (term (oneMore t))
-packs-next t a e f p = rw (e, f) p
+-- a term t whose integer is a, and the number of the next
+pub packs-next : (t : Term) (a b : ℕ) {r : ℕ} → integerIn t ≡ valueOf a → wrapped (valueOf a +ℤ pos 1) ≡ valueOf b → Packs r (term (integer (valueOf b)))
+    → Packs r (term (oneMore t))
+packs-next t a b e f p = rw (e, f) p
 
-pub last-bits : oneMore (termOf (2 ^ 32 - 1)) ≡ termOf (2 ^ 31)
+pub last-bits : wrapped (valueOf (2 ^ 32 - 1) +ℤ pos 1) ≡ valueOf (2 ^ 31)
 last-bits = refl
 
 -- the number of a count from 0 on, but the last, and the one after it
 pub next-number : (x : ℕ) → 2 * 2 ^ 48 + 2 ^ 31 ≤ x → x < 2 * 2 ^ 48 + (2 ^ 32 - 1) → Packs (x + 1) (term (oneMore (termIn (unpackOf x))))
 next-number x h l =
-    let a = x % 2 ^ 32 in
-    rw (unpack-term x (omega arith) (omega arith), next-bits a (omega arith)) (packs-term (suc a) (omega arith) (omega arith))
+    let a = bitsOf x in
+    let s : sortOf x ≡ 0 = omega arith in
+    rw (unpack-term x (omega arith) (omega arith), s, next-bits a (omega arith)) (packs-integer (suc a) (omega arith) (omega arith))

@@ -105,7 +105,10 @@ pub fn word_in(x: u64) -> u64
 pub fn term_in(x: u64) -> u64
     ensures { λ r. ⌜ termIn (unpackOf x) ≡ termOf r ⌝ }
 {
-    if TERM <= x && x < PROCESS {
+    if x < TERM {
+        return ZERO as u64;
+    }
+    if x < PROCESS {
         return x;
     }
     ZERO as u64
@@ -115,13 +118,13 @@ pub fn term_in(x: u64) -> u64
 pub fn alike(x: u64, y: u64) -> bool
     ensures { λ r. ⌜ r ≡ alike (termOf x) (termOf y) ⌝ }
 {
-    x % SORTS / FLOATING == y % SORTS / FLOATING
+    x / FLOATING % 2 == y / FLOATING % 2
 }
 
 pub fn is_integer(x: u64) -> bool
     ensures { λ r. ⌜ r ≡ isInteger (termOf x) ⌝ }
 {
-    x % SORTS < FLOATING
+    x / FLOATING % 2 == 0
 }
 
 // The integer of a term; of a floating one, 0.

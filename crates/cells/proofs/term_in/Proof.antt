@@ -23,4 +23,4 @@ returns-3 c =
     (by-kind termIn (c .before .before .args .x), le-ltb _ _ (c .before .if1 .left), le-ltb _ _ (c .if2 .left), cond-same)
 
 pub term-in-spec : {M : Type 1} → statement M
-term-in-spec = tie.close (tie.spec returns (λ c. search needs) returns-2 returns-3)
+term-in-spec = tie.close (tie.spec (λ c. search needs) returns returns-2 (λ c. search needs) returns-3)

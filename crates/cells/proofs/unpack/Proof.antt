@@ -32,6 +32,5 @@ unpack-spec =
     returns
     (λ c. search needs)
     returns-2
-    (λ c. search needs)
     returns-3
     returns-4)

@@ -1,7 +1,9 @@
 use Rattle.cells.proofs.CountLaws.{next-number, next-bits, last-bits, packs-next}
-use Rattle.paper.proofs.Kit.{arith, needs, ap, _∙_, sym, add-one, ltb-true, _+_, _-_, _*_, _^_}
-use Rattle.paper.specs.Cycle.{oneMore}
-use Rattle.cells.specs.Layout.{termOf}
+use Rattle.paper.proofs.Kit.{arith, needs, ap, _∙_, sym, add-one, ltb-true, _+_, _-_, _*_, _^_, pos, _+ℤ_}
+use Rattle.paper.specs.Cycle.{wrapped}
+use Rattle.paper.specs.Term.{integerIn}
+use Rattle.paper.specs.Cell.{termIn}
+use Rattle.cells.specs.Layout.{unpackOf, valueOf}
 use Rattle.cells.proofs.tally.one_more.Statement.{statement}
 use Rattle.cells.proofs.tally.one_more.Tie as tie
 
@@ -13,14 +15,17 @@ returns c = next-number (c .before .before .args .x) (c .before .if1 .taken) (lt
 
 returns-2 : tie.Need-returns-2
 returns-2 c =
-    let c₁ = c .before in
-    packs-next _ (c₁ .before .term-in .result) (c₁ .before .term-in .ensures) (ap (λ a. oneMore (termOf a)) (c₁ .if3 .taken) ∙ last-bits) (c .of-term .ensures)
+    let c₂ = c .before .before in
+    let a = c₂ .integer-in .result in
+    packs-next (termIn (unpackOf (c₂ .before .before .before .args .x))) a (2 ^ 31) (ap integerIn (c₂ .before .term-in .ensures) ∙ c₂ .integer-in .ensures)
+    (ap (λ a. wrapped (valueOf a +ℤ pos 1)) (c .before .if3 .taken) ∙ last-bits) (c .of-integer .ensures)
 
 returns-3 : tie.Need-returns-3
 returns-3 c =
-    let c₁ = c .before .before in
-    let a = c₁ .term-in .result in
-    packs-next _ a (c₁ .term-in .ensures) (next-bits a (omega (arith, c .before .if3 .left)) ∙ ap termOf (sym (add-one a))) (c .of-term2 .ensures)
+    let c₂ = c .before .before in
+    let a = c₂ .integer-in .result in
+    packs-next (termIn (unpackOf (c₂ .before .before .before .args .x))) a (a + 1) (ap integerIn (c₂ .before .term-in .ensures) ∙ c₂ .integer-in .ensures)
+    (next-bits a (omega (arith, c .before .if3 .left)) ∙ ap valueOf (sym (add-one a))) (c .of-integer2 .ensures)
 
 pub one-more-spec : {M : Type 1} → statement M
 one-more-spec =
@@ -28,6 +33,7 @@ one-more-spec =
     (tie.spec
     add-result
     returns
+    (λ c κs. search needs)
     (λ c κs. search needs)
     (λ c κs. search needs)
     returns-2
