@@ -1,5 +1,5 @@
 -- Laws of symbols and records: a symbol by its class, an integer's value, a record by its kind.
-use Rattle.paper.proofs.Kit.{_||_, ℕ, zero, suc, _+_, _-_, _*_, _<_, _≤_, Bool, true, false, cond, _&&_, and-false, List, [], _∷_, _⊎_, ⊎-elim, Option, none}
+use Rattle.paper.proofs.Kit.{_||_, ℕ, zero, suc, _+_, _-_, _*_, _^_, _<_, _≤_, Bool, true, false, cond, _&&_, and-false, List, [], _∷_, _⊎_, ⊎-elim, Option, none}
 use Rattle.paper.proofs.Kit.{some, _≡_, refl, ap, _∙_, sym, subst, arith, ℕ-discrete, lt-ltb, le-ltb, le-leb, lt-leb, ne-eqb, ltb-false, eqb-false, eqb, ltb}
 use Rattle.paper.proofs.Kit.{leb, getD, length, ℤ, pos, negsuc}
 use Rattle.paper.specs.Step.{choose}
@@ -7,9 +7,10 @@ use Rattle.paper.specs.declared.Field.{Field}
 use Rattle.paper.specs.declared.Field.the-variants.{Regional, Local, Zero, Blank}
 use Rattle.paper.specs.Limits.{largestNumber, largestP, manyLocals, halfRange}
 use Rattle.paper.specs.Region.{isLetter}
-use Rattle.paper.specs.Record.{region, routine, datum, number, field, guard, signed32, byteAt, nameAt, recordAt, regionAt, routineAt, datumAt, numberAt}
-use Rattle.paper.specs.Record.{startAt, startWith, given, nameAs, maySymb, mayLinkData, pairAt, fieldAt, sizeOf}
-use Rattle.cells.specs.Layout.{valueOf}
+use Rattle.paper.specs.Record.{region, routine, datum, number, field, guard, signed32, byteAt, nameAt, recordAt, regionAt, routineAt, datumAt, numberAt, asInteger, asFloating}
+use Rattle.paper.specs.Term.{Term, integer, floating, termFits, isFinite}
+use Rattle.paper.specs.Record.{startAt, startWith, given, nameAs, maySymb, mayLinkData, pairAt, longAt, fieldAt, sizeOf}
+use Rattle.cells.specs.Layout.{valueOf, sortOf, bitsOf, termOf}
 use Rattle.records.specs.Symbols.{Written, symbolsIn, symbolsAt, placeOf, symbolAt}
 use Rattle.cells.proofs.Laws.{value-low, value-high}
 
@@ -29,16 +30,16 @@ unfolding guard
 guard-cond true x = refl
 guard-cond false x = refl
 
--- a number that is none of 1 to 5 is no kind
-pub no-kind : (a b c d e : ℕ) (k : ℕ) → (k ≡ 1 → ⊥) → (k ≡ 2 → ⊥) → (k ≡ 3 → ⊥) → (k ≡ 4 → ⊥) → (k ≡ 5 → ⊥)
-    → 0 ≡ getD (0 ∷ a ∷ b ∷ c ∷ d ∷ e ∷ []) k 0
-no-kind a b c d e zero p q r s t = refl
-no-kind a b c d e (suc zero) p q r s t = absurd (p refl)
-no-kind a b c d e (suc (suc zero)) p q r s t = absurd (q refl)
-no-kind a b c d e (suc (suc (suc zero))) p q r s t = absurd (r refl)
-no-kind a b c d e (suc (suc (suc (suc zero)))) p q r s t = absurd (s refl)
-no-kind a b c d e (suc (suc (suc (suc (suc zero))))) p q r s t = absurd (t refl)
-no-kind a b c d e (suc (suc (suc (suc (suc (suc k)))))) p q r s t = refl
+-- a number that is none of 1 to 6 is no kind
+pub no-kind : (k : ℕ) → (k ≡ 1 → ⊥) → (k ≡ 2 → ⊥) → (k ≡ 3 → ⊥) → (k ≡ 4 → ⊥) → (k ≡ 5 → ⊥) → (k ≡ 6 → ⊥) → 0 ≡ sizeOf k
+no-kind zero p q r s t u = refl
+no-kind (suc zero) p q r s t u = absurd (p refl)
+no-kind (suc (suc zero)) p q r s t u = absurd (q refl)
+no-kind (suc (suc (suc zero))) p q r s t u = absurd (r refl)
+no-kind (suc (suc (suc (suc zero)))) p q r s t u = absurd (s refl)
+no-kind (suc (suc (suc (suc (suc zero))))) p q r s t u = absurd (t refl)
+no-kind (suc (suc (suc (suc (suc (suc zero)))))) p q r s t u = absurd (u refl)
+no-kind (suc (suc (suc (suc (suc (suc (suc k))))))) p q r s t u = refl
 
 -- a symbol by its class
 module _ (b n : ℕ) where
@@ -95,6 +96,26 @@ excess-high n g h =
     value-low (n - halfRange) (omega arith) ∙ ap negsuc e
     ∙ sym (signed-high (ltb n halfRange) (pos n) (negsuc (halfRange + halfRange - 1 - n)) (le-ltb n halfRange g))
 
+-- a data term that was read, by its number
+pub integer-read : (v n : ℕ) → v < 2 ^ 32 → valueOf v ≡ signed32 n → some (termOf v) ≡ asInteger n
+integer-read v n l e =
+    let s : sortOf v ≡ 0 = omega arith in
+    let b : bitsOf v ≡ v = omega arith in
+    rw (s, b) (ap (λ (z : ℤ). some (integer z)) e)
+
+module _ (n : ℕ) (l : n < 2 ^ 32) where
+  fits-finite : termFits (floating n) ≡ isFinite n
+  fits-finite = rw (lt-ltb n (2 ^ 32) l)
+
+  pub floating-read : isFinite n ≡ true → some (termOf (2 ^ 32 + n)) ≡ asFloating n
+  floating-read h =
+      let s : sortOf (2 ^ 32 + n) ≡ 1 = omega arith in
+      let b : bitsOf (2 ^ 32 + n) ≡ n = omega arith in
+      rw (s, b) (sym (guard-cond (termFits (floating n)) _ ∙ ap (λ (t : Bool). cond t (some (floating n)) none) (fits-finite ∙ h)))
+
+  pub floating-refused : isFinite n ≡ false → none ≡ asFloating n
+  floating-refused h = sym (guard-cond (termFits (floating n)) _ ∙ ap (λ (t : Bool). cond t (some (floating n)) none) (fits-finite ∙ h))
+
 -- a record by its kind
 module _ (r : List ℕ) where
   kind-2 : byteAt r 0 ≡ 2 → recordAt r ≡ routineAt r
@@ -105,7 +126,7 @@ module _ (r : List ℕ) where
   unfolding recordAt
   kind-3 k = simp (choose-cond, k)
 
-  kind-4 : byteAt r 0 ≡ 4 → recordAt r ≡ numberAt r
+  kind-4 : byteAt r 0 ≡ 4 → recordAt r ≡ numberAt asInteger r
   unfolding recordAt
   kind-4 k = simp (choose-cond, k)
 
@@ -113,11 +134,15 @@ module _ (r : List ℕ) where
   unfolding recordAt
   kind-5 k = simp (choose-cond, k)
 
-  pub kind-none : (kind : ℕ) → kind ≡ byteAt r 0 → (kind ≡ 1 → ⊥) → (kind ≡ 2 → ⊥) → (kind ≡ 3 → ⊥) → (kind ≡ 4 → ⊥) → (kind ≡ 5 → ⊥)
+  kind-6 : byteAt r 0 ≡ 6 → recordAt r ≡ numberAt asFloating r
+  unfolding recordAt
+  kind-6 k = simp (choose-cond, k)
+
+  pub kind-none : (kind : ℕ) → kind ≡ byteAt r 0 → (kind ≡ 1 → ⊥) → (kind ≡ 2 → ⊥) → (kind ≡ 3 → ⊥) → (kind ≡ 4 → ⊥) → (kind ≡ 5 → ⊥) → (kind ≡ 6 → ⊥)
       → recordAt r ≡ none
   unfolding recordAt
-  kind-none kind k a b c d e =
-      simp (choose-cond, choose-none, ← k, ne-eqb kind 1 a, ne-eqb kind 2 b, ne-eqb kind 3 c, ne-eqb kind 4 d, ne-eqb kind 5 e)
+  kind-none kind k a b c d e f =
+      simp (choose-cond, choose-none, ← k, ne-eqb kind 1 a, ne-eqb kind 2 b, ne-eqb kind 3 c, ne-eqb kind 4 d, ne-eqb kind 5 e, ne-eqb kind 6 f)
 
 -- from its symbols
 module _ (r : List ℕ) (fs : List Field) (kind : ℕ) (k : kind ≡ byteAt r 0) (w : Written kind r fs (symbolsIn kind)) where
@@ -140,10 +165,17 @@ module _ (r : List ℕ) (fs : List Field) (kind : ℕ) (k : kind ≡ byteAt r 0)
   unfolding datumAt nameAt given
   record-3 e = let v = written 3 e in kind-3 r (sym k ∙ e) ∙ simp (v .are 0 (omega arith), v .are 1 (omega arith), v .are 2 (omega arith))
 
-  pub record-4 : kind ≡ 4
-      → recordAt r ≡ given (nameAs (symbolAt fs 0)) (λ name. some (number name (signed32 (pairAt r 4 * 65536 + pairAt r 6))))
+  -- a data term, of the sort that its kind says
+  pub record-term : (n : ℕ) (sort : ℕ → Option Term) → symbolsIn n ≡ 1 → kind ≡ n → recordAt r ≡ numberAt sort r
+      → recordAt r ≡ given (nameAs (symbolAt fs 0)) (λ name. given (sort (longAt r 4)) (λ t. some (number name t)))
   unfolding numberAt nameAt given
-  record-4 e = kind-4 r (sym k ∙ e) ∙ simp (written 4 e .are 0 (omega arith))
+  record-term n sort one e q = q ∙ simp (written n e .are 0 (omega (arith, one)))
+
+  pub record-4 : kind ≡ 4 → recordAt r ≡ given (nameAs (symbolAt fs 0)) (λ name. given (asInteger (longAt r 4)) (λ t. some (number name t)))
+  record-4 e = record-term 4 asInteger refl e (kind-4 r (sym k ∙ e))
+
+  pub record-6 : kind ≡ 6 → recordAt r ≡ given (nameAs (symbolAt fs 0)) (λ name. given (asFloating (longAt r 4)) (λ t. some (number name t)))
+  record-6 e = record-term 6 asFloating refl e (kind-6 r (sym k ∙ e))
 
   pub record-5 : kind ≡ 5 → recordAt r ≡ startWith (symbolAt fs 0)
   unfolding startAt given
@@ -188,7 +220,8 @@ module _ (r : List ℕ) where
 
   pub bad-symbol : (kind i : ℕ) → kind ≡ byteAt r 0 → i < symbolsIn kind → fieldAt r (placeOf kind i) ≡ none → recordAt r ≡ none
   unfolding numberAt startAt
-  bad-symbol kind i k h e = go (ℕ-discrete kind 1) (ℕ-discrete kind 2) (ℕ-discrete kind 3) (ℕ-discrete kind 4) (ℕ-discrete kind 5)
+  bad-symbol kind i k h e =
+      go (ℕ-discrete kind 1) (ℕ-discrete kind 2) (ℕ-discrete kind 3) (ℕ-discrete kind 4) (ℕ-discrete kind 5) (ℕ-discrete kind 6)
     where
       at : (n : ℕ) → kind ≡ n → i < symbolsIn n
       at n p = subst (λ (x : ℕ). i < symbolsIn x) p h
@@ -196,13 +229,14 @@ module _ (r : List ℕ) where
       there : (n : ℕ) → kind ≡ n → fieldAt r (placeOf n i) ≡ none
       there n p = subst (λ (x : ℕ). fieldAt r (placeOf x i) ≡ none) p e
 
-      go : Dec (kind ≡ 1) → Dec (kind ≡ 2) → Dec (kind ≡ 3) → Dec (kind ≡ 4) → Dec (kind ≡ 5) → recordAt r ≡ none
-      go (yes p) _ _ _ _ = absurd (omega (arith, at 1 p))
-      go (no a) (yes p) _ _ _ = kind-2 r (sym k ∙ p) ∙ bad-routine i (at 2 p) (there 2 p)
-      go (no a) (no b) (yes p) _ _ = kind-3 r (sym k ∙ p) ∙ bad-datum i (at 3 p) (there 3 p)
-      go (no a) (no b) (no c) (yes p) _ = kind-4 r (sym k ∙ p) ∙ none-first _ _ (bad-name (bad-only 4 i (at 4 p) (there 4 p)))
-      go (no a) (no b) (no c) (no d) (yes p) = kind-5 r (sym k ∙ p) ∙ none-first _ _ (bad-only 5 i (at 5 p) (there 5 p))
-      go (no a) (no b) (no c) (no d) (no f) = kind-none r kind k a b c d f
+      go : Dec (kind ≡ 1) → Dec (kind ≡ 2) → Dec (kind ≡ 3) → Dec (kind ≡ 4) → Dec (kind ≡ 5) → Dec (kind ≡ 6) → recordAt r ≡ none
+      go (yes p) _ _ _ _ _ = absurd (omega (arith, at 1 p))
+      go (no a) (yes p) _ _ _ _ = kind-2 r (sym k ∙ p) ∙ bad-routine i (at 2 p) (there 2 p)
+      go (no a) (no b) (yes p) _ _ _ = kind-3 r (sym k ∙ p) ∙ bad-datum i (at 3 p) (there 3 p)
+      go (no a) (no b) (no c) (yes p) _ _ = kind-4 r (sym k ∙ p) ∙ none-first _ _ (bad-name (bad-only 4 i (at 4 p) (there 4 p)))
+      go (no a) (no b) (no c) (no d) (yes p) _ = kind-5 r (sym k ∙ p) ∙ none-first _ _ (bad-only 5 i (at 5 p) (there 5 p))
+      go (no a) (no b) (no c) (no d) (no f) (yes p) = kind-6 r (sym k ∙ p) ∙ none-first _ _ (bad-name (bad-only 6 i (at 6 p) (there 6 p)))
+      go (no a) (no b) (no c) (no d) (no f) (no g) = kind-none r kind k a b c d f g
 
 -- the symbols of a record that is whole, and of any
 pub all-symbols : (r : List ℕ) (kind : ℕ) → kind ≡ byteAt r 0 → (sizeOf kind ≡ 0 → ⊥) → sizeOf kind ≤ length r → symbolsAt r ≡ symbolsIn kind

@@ -9,13 +9,16 @@ use lib.ListN.{getD, length}
 use Rattle.paper.specs.declared.Field.{Field}
 use Rattle.paper.specs.declared.Field.the-variants.{Regional}
 use Rattle.paper.specs.Record.{Name, inRegion, asLocal, noName, Record, region, routine, datum, number, start, byteAt, sizeOf, fieldAt}
-use Rattle.cells.specs.Layout.{valueOf}
+use Rattle.paper.specs.Term.{Term}
+use Rattle.cells.specs.Layout.{termOf}
 use Rattle.records.specs.declared.Read.{Read}
 use Rattle.records.specs.declared.Read.the-variants.{Symbol, Nothing}
 use Rattle.records.specs.declared.Name.{Name as CodeName}
 use Rattle.records.specs.declared.Name.the-variants.{Regional as InRegion, Local as AsLocal, Blank as NoName}
 use Rattle.records.specs.declared.NameRead.{NameRead}
 use Rattle.records.specs.declared.NameRead.the-variants.{As, Nothing as NotNamed}
+use Rattle.records.specs.declared.TermRead.{TermRead}
+use Rattle.records.specs.declared.TermRead.the-variants.{As as ATerm, Nothing as NoTerm}
 use Rattle.records.specs.declared.Record.{Record as CodeRecord}
 use Rattle.records.specs.declared.Record.the-variants.{Region, Routine, Datum, Number, Start}
 use Rattle.records.specs.declared.Parsed.{Parsed}
@@ -34,18 +37,22 @@ abbrev pub nameReadOf : NameRead → Option Name
 nameReadOf (As x) = some (nameOf x)
 nameReadOf NotNamed = none
 
+abbrev pub termReadOf : TermRead → Option Term
+termReadOf (ATerm x) = some (termOf x)
+termReadOf NoTerm = none
+
 abbrev pub recordOf : CodeRecord → Record
 recordOf (Region b n) = region b n
 recordOf (Routine name p q symb link) = routine (nameOf name) p q symb link
 recordOf (Datum name symb link) = datum (nameOf name) symb link
-recordOf (Number name v) = number (nameOf name) (valueOf v)
+recordOf (Number name x) = number (nameOf name) (termOf x)
 recordOf (Start b n) = start b n
 
 abbrev pub parsedOf : Parsed → Option Record
 parsedOf (Is x) = some (recordOf x)
 parsedOf NoRecord = none
 
--- how many symbols a record has by its kind: a word NAME, SYMB and LINK, an integer its NAME, the last record the start symbol
+-- how many symbols a record has by its kind: a word NAME, SYMB and LINK, a data term its NAME, the last record the start symbol
 abbrev pub symbolsIn : ℕ → ℕ
 symbolsIn kind = cond (eqb kind 1) 0 (cond (eqb kind 2) 3 (cond (eqb kind 3) 3 1))
 

@@ -6,7 +6,7 @@ ghost use mathlib.Core.Option.{none, some};
 ghost use lib.Dec.{leb};
 ghost use Rattle.paper.specs.Limits.{largestNumber, largestP};
 ghost use Rattle.paper.specs.Region.{isLetter};
-ghost use Rattle.paper.specs.Record.{region, routine, datum, number, byteAt, pairAt, field, fieldAt, sizeOf, nameAs, maySymb, mayLinkData};
+ghost use Rattle.paper.specs.Record.{region, routine, datum, number, byteAt, pairAt, longAt, field, fieldAt, sizeOf, nameAs, maySymb, mayLinkData};
 ghost use Rattle.paper.specs.Record.{given, guard, signed32, asInteger, asFloating, startWith, recordAt};
 ghost use Rattle.cells.specs.Layout.{valueOf};
 ghost use Rattle.records.specs.Symbols.{readOf, nameReadOf, termReadOf, recordOf, parsedOf, symbolsIn, symbolsAt, placeOf, Written};
@@ -256,6 +256,13 @@ fn long(high: u16, low: u16) -> u32
     (high as u32) * 65536 + (low as u32)
 }
 
+fn long_at(r: &[u8], i: u8) -> u32
+    ensures { λ x. ⌜ x ≡ longAt (now (r .entry)) i ⌝ }
+{
+    let at = i as u16;
+    long(pair_at(r, at), pair_at(r, at + 2))
+}
+
 // "signed 32 bits"
 fn as_integer(n: u32) -> TermRead
     ensures { λ x. ⌜ termReadOf x ≡ asInteger n ⌝ }
@@ -310,9 +317,9 @@ pub fn parse(r: &[u8], kind: u8, symbols: [Field; 3]) -> Parsed
         1 => region(byte_at(r, 1), pair_at(r, 2)),
         2 => routine(name_as(first), byte_at(r, 4), byte_at(r, 5), symb, link),
         3 => datum(name_as(first), symb, link),
-        4 => number(name_as(first), as_integer(long(pair_at(r, 4), pair_at(r, 6)))),
+        4 => number(name_as(first), as_integer(long_at(r, 4))),
         5 => start(first),
-        6 => number(name_as(first), as_floating(long(pair_at(r, 4), pair_at(r, 6)))),
+        6 => number(name_as(first), as_floating(long_at(r, 4))),
         _ => Parsed::Nothing,
     }
 }

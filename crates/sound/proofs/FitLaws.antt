@@ -1,7 +1,8 @@
 -- The numbers of a sound store: each cell fits its fields, so its number unpacks to it and is in form.
-use Rattle.paper.proofs.Kit.{ℕ, suc, _<_, _≡_, refl, ap, List, [], _∷_, arith, length, getD, pos, negsuc}
-use Rattle.paper.specs.Cell.{Cell, free, word, term, integer, process, State}
-use Rattle.paper.proofs.SoundStore.{Frame, at, CellOk, Sound}
+use Rattle.paper.proofs.Kit.{ℕ, suc, _<_, _≡_, refl, ap, List, [], _∷_, arith, length, getD, pos, negsuc, _^_, ltb, ltb-true}
+use Rattle.paper.specs.Cell.{Cell, free, word, term, integer, floating, process, State}
+use Rattle.paper.specs.Term.{isFinite}
+use Rattle.paper.proofs.SoundStore.{Frame, at, CellOk, Sound, and-true}
 use Rattle.cells.specs.Pack.{CellFits, AllFormed, packOf, packed}
 use Rattle.cells.specs.Bridge.{unpacked}
 use Rattle.cells.proofs.Laws.{unpack-pack}
@@ -17,6 +18,7 @@ cell-fits F c (word w) k = record {
 }
 cell-fits F c (term (integer (pos n))) k = omega (arith, k .range)
 cell-fits F c (term (integer (negsuc n))) k = omega (arith, k .range)
+cell-fits F c (term (floating b)) k = ltb-true b (2 ^ 32) (and-true (ltb b (2 ^ 32)) (isFinite b) (k .range) .0)
 cell-fits F c process k = tt
 
 abbrev pub EachFits : List Cell → Type 0

@@ -1,13 +1,14 @@
 -- The number of a cell: when it is in form, and what soundness asks of it, by its kind.
-use Rattle.paper.proofs.Kit.{ℕ, _+_, _*_, _%_, _^_, _<_, _≤_, Bool, true, false, cond, _&&_, and-assoc, and-true, true≢false, _≡_, refl, ap, sym, _∙_}
+use Rattle.paper.proofs.Kit.{ℕ, _+_, _*_, _%_, _^_, _<_, _≤_, Bool, true, false, cond, _&&_, _||_, and-assoc, and-true, and-false, true≢false, _≡_, refl, ap, sym, _∙_}
 use Rattle.paper.proofs.Kit.{arith, lt-ltb, eq-eqb, ne-eqb, ltb-true, ltb-false, eqb-true, eqb-false, ltb, leb, eqb, ℤ, pos, negsuc}
 use Rattle.paper.specs.Cell.{word, integer, termFits}
+use Rattle.paper.specs.Term.{isFinite}
 use Rattle.paper.specs.Sound.{wordSound, takesWord, takesTerm, cellSound, isZeros}
 use Rattle.paper.proofs.SoundStore.{and-true as both}
-use Rattle.cells.specs.Layout.{unpackOf, wordOf, pOf, qOf, symbOf, linkOf, valueOf}
+use Rattle.cells.specs.Layout.{unpackOf, wordOf, pOf, qOf, symbOf, linkOf, valueOf, sortOf, bitsOf, termOf}
 use Rattle.cells.specs.Pack.{packOf, IntegerFits, a-word, a-free, a-term, a-process}
-use Rattle.cells.proofs.Laws.{by-kind, cond-same, unpack-word, unpack-free, unpack-term, unpack-process, pack-unpack, excess-value, value-fits}
-use Rattle.sound.specs.Store.{formed, numberSound}
+use Rattle.cells.proofs.Laws.{by-kind, cond-same, unpack-word, unpack-free, unpack-term, unpack-process, pack-unpack, term-bits, value-fits}
+use Rattle.sound.specs.Store.{formed, termSound, numberSound}
 
 -- a test that says whether two numbers are equal
 decided : (a b : ℕ) (t : Bool) → (t ≡ true → a ≡ b) → (t ≡ false → a ≡ b → ⊥) → eqb a b ≡ t
@@ -24,14 +25,14 @@ formed-free x g h =
     decided (packOf (unpackOf x)) x (ltb x (2 ^ 48 + 2 ^ 16)) (λ e. pack-unpack x (a-free g (ltb-true _ _ e)))
     (λ e q. let l = ltb-false x (2 ^ 48 + 2 ^ 16) e in omega (arith, ap packOf (unpack-free x g h)))
 
-term-packs : (x : ℕ) → 2 * 2 ^ 48 ≤ x → x < 3 * 2 ^ 48 → packOf (unpackOf x) ≡ 2 * 2 ^ 48 + x % 2 ^ 32
-term-packs x g h = ap packOf (unpack-term x g h) ∙ ap (λ (a : ℕ). 2 * 2 ^ 48 + a) (excess-value (x % 2 ^ 32))
+term-packs : (x : ℕ) → 2 * 2 ^ 48 ≤ x → x < 3 * 2 ^ 48 → packOf (unpackOf x) ≡ 2 * 2 ^ 48 + x % 2 ^ 33
+term-packs x g h = ap packOf (unpack-term x g h) ∙ ap (λ (a : ℕ). 2 * 2 ^ 48 + a) (term-bits x)
 
-formed-term : (x : ℕ) → 2 * 2 ^ 48 ≤ x → x < 3 * 2 ^ 48 → formed x ≡ ltb x (2 * 2 ^ 48 + 2 ^ 32)
+formed-term : (x : ℕ) → 2 * 2 ^ 48 ≤ x → x < 3 * 2 ^ 48 → formed x ≡ ltb x (2 * 2 ^ 48 + 2 ^ 33)
 unfolding formed
 formed-term x g h =
-    decided (packOf (unpackOf x)) x (ltb x (2 * 2 ^ 48 + 2 ^ 32)) (λ e. pack-unpack x (a-term g (ltb-true _ _ e)))
-    (λ e q. let l = ltb-false x (2 * 2 ^ 48 + 2 ^ 32) e in omega (arith, term-packs x g h))
+    decided (packOf (unpackOf x)) x (ltb x (2 * 2 ^ 48 + 2 ^ 33)) (λ e. pack-unpack x (a-term g (ltb-true _ _ e)))
+    (λ e q. let l = ltb-false x (2 * 2 ^ 48 + 2 ^ 33) e in omega (arith, term-packs x g h))
 
 formed-process : (x : ℕ) → 3 * 2 ^ 48 ≤ x → formed x ≡ eqb x (3 * 2 ^ 48)
 unfolding formed
@@ -43,6 +44,26 @@ in-32 : (z : ℤ) → IntegerFits z → termFits (integer z) ≡ true
 in-32 (pos n) h = lt-ltb n (2 ^ 31) h
 in-32 (negsuc n) h = lt-ltb n (2 ^ 31) h
 
+-- what is asked of the number of a data term, by its sort
+module _ (c x : ℕ) (g : 2 * 2 ^ 48 ≤ x) (h : x < 3 * 2 ^ 48) where
+  pub integer-sound : x < 2 * 2 ^ 48 + 2 ^ 32 → (eqb c 4 || leb 221 c) ≡ termSound c x
+  unfolding termSound
+  integer-sound l =
+      let s : sortOf x ≡ 0 = omega arith in
+      let f = in-32 (valueOf (bitsOf x)) (value-fits (bitsOf x) (omega arith)) in
+      rw (formed-term x g h, lt-ltb x (2 * 2 ^ 48 + 2 ^ 33) (omega arith), s, f, and-true (eqb c 4), and-true (eqb c 4 || leb 221 c))
+
+  pub floating-sound : 2 * 2 ^ 48 + 2 ^ 32 ≤ x → (ltb x (2 * 2 ^ 48 + 2 ^ 33) && leb 221 c && isFinite (bitsOf x)) ≡ termSound c x
+  unfolding termSound
+  floating-sound l = rw (formed-term x g h) (go (ltb x (2 * 2 ^ 48 + 2 ^ 33)) refl)
+    where
+      go : (t : Bool) → ltb x (2 * 2 ^ 48 + 2 ^ 33) ≡ t → (t && leb 221 c && isFinite (bitsOf x)) ≡ (t && (takesTerm c (termOf x) && termFits (termOf x)))
+      go true e =
+          let k = ltb-true x (2 * 2 ^ 48 + 2 ^ 33) e in
+          let s : sortOf x ≡ 1 = omega arith in
+          rw (s, lt-ltb (bitsOf x) (2 ^ 32) (omega arith), and-false (eqb c 4))
+      go false e = refl
+
 -- what is asked of the number of cell c
 module _ (n end c x : ℕ) where
   pub number-word : x < 2 ^ 48 → (wordSound n c (wordOf x) && takesWord c) ≡ numberSound n end c x
@@ -53,11 +74,9 @@ module _ (n end c x : ℕ) where
   unfolding numberSound cellSound
   number-free g h = rw (formed-free x g h, unpack-free x g h) (and-assoc (ltb x (2 ^ 48 + 2 ^ 16)) (leb end c) (ltb (linkOf x) n))
 
-  pub number-term : 2 * 2 ^ 48 ≤ x → x < 3 * 2 ^ 48 → (ltb x (2 * 2 ^ 48 + 2 ^ 32) && takesTerm c) ≡ numberSound n end c x
-  unfolding numberSound cellSound
-  number-term g h =
-      let f = in-32 (valueOf (x % 2 ^ 32)) (value-fits (x % 2 ^ 32) (omega arith)) in
-      rw (formed-term x g h, unpack-term x g h, f, and-true (takesTerm c))
+  pub number-term : 2 * 2 ^ 48 ≤ x → x < 3 * 2 ^ 48 → termSound c x ≡ numberSound n end c x
+  unfolding termSound numberSound cellSound
+  number-term g h = rw (unpack-term x g h)
 
   pub number-process : 3 * 2 ^ 48 ≤ x → (eqb x (3 * 2 ^ 48) && leb 21 c && ltb c 221) ≡ numberSound n end c x
   unfolding numberSound cellSound

@@ -4,9 +4,9 @@ use mathlib.Core.Bool.{Bool, true, cond, _&&_}
 use mathlib.Core.List.{List, [], _∷_}
 use lib.Dec.{eqb, leb}
 use lib.ListN.{length}
-use Rattle.paper.specs.Cell.{State}
-use Rattle.paper.specs.Sound.{cellSound, cellsSound, freeCount, sound}
-use Rattle.cells.specs.Layout.{unpackOf}
+use Rattle.paper.specs.Cell.{termFits, State}
+use Rattle.paper.specs.Sound.{takesTerm, cellSound, cellsSound, freeCount, sound}
+use Rattle.cells.specs.Layout.{unpackOf, termOf}
 use Rattle.cells.specs.Pack.{packOf}
 use Rattle.cells.specs.Bridge.{unpacked, stateOf}
 use Rattle.regions.specs.declared.Regions.{Regions}
@@ -31,6 +31,9 @@ unfoldable pub storeSound : Regions → List ℕ → Bool
 storeSound r s = leb (r .n) 23 && allFormed s && sound (stateWith r s [] 0)
 
 -- the parts of the code's one pass
+unfoldable pub termSound : ℕ → ℕ → Bool
+termSound c x = formed x && (takesTerm c (termOf x) && termFits (termOf x))
+
 unfoldable pub numberSound : ℕ → ℕ → ℕ → ℕ → Bool
 numberSound n end c x = formed x && cellSound n end c (unpackOf x)
 

@@ -1,11 +1,12 @@
 // The test of soundness: document 01, "A store is sound if ..", for any numbers and any table; and the question that every call begins with.
 ghost use mathlib.Core.Path.{_≡_};
+ghost use Prim.Native.Nat.{_*_, _^_, _<_, _≤_};
 ghost use lib.ListN.{getD};
 ghost use Rattle.paper.specs.Cell.{sizeFits};
 ghost use Rattle.paper.specs.Sound.{wordSound, freeList, freeStart};
 ghost use Rattle.cells.specs.Layout.{wordOf};
 ghost use Rattle.cells.specs.Bridge.{unpacked};
-ghost use Rattle.sound.specs.Store.{numberSound, passOf, storeSound};
+ghost use Rattle.sound.specs.Store.{termSound, numberSound, passOf, storeSound};
 ghost use Rattle.sound.specs.Asked.{Asks};
 use paper::RunAnswer;
 use paper::limits;
@@ -40,7 +41,8 @@ fn word_sound(x: u64, n: usize, c: usize) -> bool
 
 // CR 8: "H3 is an integer"; CR 9: a floating term has no place below the deck's cells, and "a sound store holds finite ones only".
 fn term_sound(x: u64, c: usize) -> bool
-    ensures { λ r. ⌜ r ≡ termNumberSound c x ⌝ }
+    requires { ⌜ (2 * 2 ^ 48 ≤ x) × (x < 3 * 2 ^ 48) ⌝ }
+    ensures { λ r. ⌜ r ≡ termSound c x ⌝ }
 {
     if x < cells::TERM + cells::FLOATING {
         return (c == H3) | (FIRST_DECK <= c);

@@ -1,4 +1,4 @@
-use Rattle.records.proofs.Laws.{record-1, record-2, record-3, record-4, record-5, kind-none}
+use Rattle.records.proofs.Laws.{record-1, record-2, record-3, record-4, record-5, record-6, kind-none}
 use Rattle.paper.proofs.Kit.{_∙_, sym, needs}
 use Rattle.records.proofs.parse.Statement.{statement}
 use Rattle.records.proofs.parse.Tie as tie
@@ -36,7 +36,7 @@ returns-4 c =
     let c₃ = c₂ .before in
     let c₄ = c₃ .before in
     let c₅ = c₄ .before .before .before .before .before in
-    simp (c₃ .name-as3 .ensures, c₂ .pair-at2 .ensures, c₁ .pair-at3 .ensures) at (c .number .ensures)
+    simp (c₃ .name-as3 .ensures, c₁ .as-integer .ensures, c₂ .long-at .ensures) at (c .number .ensures)
     ∙ sym (record-4 _ _ _ (c₅ .pre .0) (c₅ .pre .1) (c₄ .match .keys4))
 
 returns-5 : tie.Need-returns-5
@@ -47,10 +47,19 @@ returns-5 c =
 
 returns-6 : tie.Need-returns-6
 returns-6 c =
+    let c₁ = c .before in
+    let c₂ = c₁ .before in
+    let c₃ = c₂ .before in
+    let c₄ = c₃ .before in
+    let c₅ = c₄ .before .before .before .before .before in
+    simp (c₃ .name-as4 .ensures, c₁ .as-floating .ensures, c₂ .long-at2 .ensures) at (c .number2 .ensures)
+    ∙ sym (record-6 _ _ _ (c₅ .pre .0) (c₅ .pre .1) (c₄ .match .keys6))
+
+returns-7 : tie.Need-returns-7
+returns-7 c =
     let c₁ = c .before .before .before .before .before in
-    sym
-    (kind-none _ _ (c₁ .pre .0) (c .match .rest .0 .0 .0 .0 .1) (c .match .rest .0 .0 .0 .1) (c .match .rest .0 .0 .1) (c .match .rest .0 .1)
-    (c .match .rest .1))
+    let no = c .match .rest in
+    sym (kind-none _ _ (c₁ .pre .0) (no .0 .0 .0 .0 .0 .1) (no .0 .0 .0 .0 .1) (no .0 .0 .0 .1) (no .0 .0 .1) (no .0 .1) (no .1))
 
 pub parse-spec : {M : Type 1} → statement M
 parse-spec =
@@ -73,9 +82,14 @@ parse-spec =
     (λ c κs. search needs)
     (λ c κs. search needs)
     (λ c κs. search needs)
+    (λ c κs. search needs)
+    (λ c κs. search needs)
+    (λ c κs. search needs)
+    (λ c κs. search needs)
     returns
     returns-2
     returns-3
     returns-4
     returns-5
-    returns-6)
+    returns-6
+    returns-7)
