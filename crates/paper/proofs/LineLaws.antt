@@ -67,7 +67,7 @@ symbol-line rs x b =
     choose-both short _ _ _ _ (omega (arith, number))
     (choose-both short _ _ _ _ (cell-line (x .num) _ b (name-below rs (x .num))) (choose-last short _ (omega (arith, number))))
 
-hex-length : (k n : ℕ) → length (hexBy k n) ≡ k
+pub hex-length : (k n : ℕ) → length (hexBy k n) ≡ k
 unfolding hexBy
 hex-length zero n = refl
 hex-length (suc k) n = length-append (hexBy k (n / 16)) (hexDigit (n % 16) ∷ []) ∙ ap (λ (m : ℕ). m + 1) (hex-length k (n / 16)) ∙ add-one k

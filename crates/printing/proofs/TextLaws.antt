@@ -1,15 +1,16 @@
 -- Writing the text of a line: one byte after another, digits, the names of cells; and a line that is copied out.
-use Rattle.paper.proofs.Kit.{ℕ, zero, suc, _+_, _-_, _/_, _%_, _^_, _<_, _≤_, _≡_, refl, ap, _∙_, sym, subst, _≢_, Option, none, some, List, [], _∷_, _++_}
+use Rattle.paper.proofs.Kit.{ℕ, zero, suc, _+_, _-_, _/_, _%_, _^_, _<_, _≤_, _≡_, refl, ap, _∙_, sym, subst, true, false, _≢_, Option, none, some, List, [], _∷_, _++_}
 use Rattle.paper.proofs.Kit.{append-assoc, append-nil, arith, add-one, lt-ltb, le-ltb, eq-eqb, ne-eqb, length, getD, take, drop, set, length-append}
 use Rattle.paper.proofs.Kit.{length-set, take-suc-set, paste, paste-suc}
 use Rattle.paper.specs.declared.Symbol.{Symbol}
 use Rattle.paper.specs.Step.{choose}
 use Rattle.paper.specs.Region.{Region, lettersOf}
-use Rattle.paper.specs.Limits.{cellDigits, longestSymbolLine}
-use Rattle.paper.specs.Print.{nineByte, minusByte, digitsBy, digits, integerText, cellText, localText, symbolText}
-use Rattle.paper.proofs.LineLaws.{digits-length, cell-digits}
-use Rattle.cells.specs.Layout.{valueOf}
-use Rattle.cells.proofs.Laws.{value-low, value-high}
+use Rattle.paper.specs.Limits.{cellDigits, hexDigits, longestSymbolLine, longestLine}
+use Rattle.paper.specs.Term.{isInteger}
+use Rattle.paper.specs.Print.{nineByte, minusByte, digitsBy, digits, integerText, hexDigit, hexBy, termText, cellText, localText, symbolText}
+use Rattle.paper.proofs.LineLaws.{digits-length, hex-length, cell-digits}
+use Rattle.cells.specs.Layout.{valueOf, bitsOf, termOf}
+use Rattle.cells.proofs.Laws.{value-low, value-high, integer-is, floating-is}
 use Rattle.regions.specs.declared.Named.{Named}
 use Rattle.regions.specs.declared.Named.the-variants.{As, Nothing}
 use Rattle.regions.specs.Lent.{lettersIn}
@@ -48,6 +49,23 @@ unfolding digitsBy
 digits-more zero n z h = absurd (z refl)
 digits-more (suc k) n z h = let p : suc k - 1 ≡ k = omega arith in rw (le-ltb n 10 h, p, digitsBy)
 
+-- the last k hex digits of n
+pub hex-low : (d : ℕ) → d < 10 → 48 + d ≡ hexDigit d
+hex-low d h = rw (lt-ltb d 10 h)
+
+pub hex-high : (d : ℕ) → 10 ≤ d → 65 + (d - 10) ≡ hexDigit d
+hex-high d h = rw (le-ltb d 10 h)
+
+pub hex-none : (k n : ℕ) → k ≡ 0 → [] ≡ hexBy k n
+unfolding hexBy
+hex-none zero n e = refl
+hex-none (suc k) n e = absurd (omega arith)
+
+pub hex-more : (k n : ℕ) → k ≢ 0 → hexBy (k - 1) (n / 16) ++ (hexDigit (n % 16) ∷ []) ≡ hexBy k n
+unfolding hexBy
+hex-more zero n z = absurd (z refl)
+hex-more (suc k) n z = let p : suc k - 1 ≡ k = omega arith in rw (p, hexBy)
+
 -- a text: another that is the same, within a larger bound; the digits of a number, alone or after a byte or two
 pub text-as : {j k : ℕ} {l l′ : List ℕ} {r : ℕ} {t u : List ℕ} → j ≤ k → t ≡ u → Text j l t l′ r → Text k l u l′ r
 text-as {k = k} {l} {l′} {r} h p w = record { writes = writes-as p (w .writes); short = omega (arith, w .short) }
@@ -74,6 +92,16 @@ integer-low v h =
 
 pub integer-high : (v : ℕ) → 2 ^ 31 ≤ v → digits (v - 2 ^ 31) ≡ integerText (valueOf v)
 integer-high v h = sym (ap integerText (value-high v h))
+
+-- a data term of either sort
+pub term-integer : (x : ℕ) → isInteger (termOf x) ≡ true → integerText (valueOf (bitsOf x)) ≡ termText (termOf x)
+unfolding termText
+term-integer x e = rw (integer-is x e, termText)
+
+pub text-hex : {l l′ : List ℕ} {r : ℕ} (x : ℕ) → isInteger (termOf x) ≡ false → Writes l 0 (hexBy hexDigits (bitsOf x)) l′ r
+    → Text longestLine l (termText (termOf x)) l′ r
+unfolding termText
+text-hex x e w = rw (floating-is x e, termText) (record { writes = w; short = omega (arith, w .end, hex-length hexDigits (bitsOf x)) })
 
 -- a cell by what the table says of it
 pub text-named : {m : Named} {o : Option (ℕ × ℕ)} {b n k : ℕ} (c : ℕ) → lettersIn m ≡ o → m ≡ As b n → (k ≡ n) × (k < 10 ^ cellDigits)

@@ -46,7 +46,7 @@ returns-4 c =
     let c₁ = c .before .before .before .before in
     let c₂ = c₁ .before .before .before .before .before in
     let c₃ = c₂ .before .before .before .before in
-    placed-as (λ y. oneRecord (length (c₃ .args .cells .now)) (recordOf y)) (c₂ .x4 .given .1) (c₁ .load-integer .ensures)
+    placed-as (λ y. oneRecord (length (c₃ .args .cells .now)) (recordOf y)) (c₂ .x4 .given .1) (c₁ .load-term .ensures)
 
 returns-5 : tie.Need-returns-5
 unfolding ordinary oneRecord loadRecord

@@ -12,8 +12,8 @@ returns c =
     let c₂ = c₁ .before .before .before .before .before in
     let c₃ = c₂ .before .before in
     let c₄ = c₃ .before .before in
-    let text = c₂ .integer-text .ensures .writes .text in
-    p-sees _ (c₄ .own .ensures) (p-reads _ (c₃ .integer-at .ensures) (p-alike (ap printPop text) (c₁ .print .ensures)))
+    let text = c₂ .term-text .ensures .writes .text in
+    p-sees _ (c₄ .own .ensures) (p-reads _ (c₃ .term-at .ensures) (p-alike (ap printPop text) (c₁ .print .ensures)))
 
 pub j153-spec : {M : Type 1} → statement M
 j153-spec =

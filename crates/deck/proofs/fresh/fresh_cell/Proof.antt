@@ -32,7 +32,7 @@ returns-4 c =
     (c .of-fields2 .ensures)
 
 returns-5 : tie.Need-returns-5
-returns-5 c = packs-as (f-H3 _ _ _ (c .before .if5 .taken)) (c .of-term .ensures)
+returns-5 c = packs-as (f-H3 _ _ _ (c .before .if5 .taken)) (c .of-integer .ensures)
 
 returns-6 : tie.Need-returns-6
 returns-6 c =

@@ -1,13 +1,13 @@
 use Rattle.deck.proofs.RecordLaws.{placed}
 use Rattle.steps.proofs.Sequence.{bind}
 use Rattle.book.proofs.Lines.{test-at}
-use Rattle.paper.specs.Deck.{loadInteger}
+use Rattle.paper.specs.Deck.{loadTerm}
 use Rattle.paper.proofs.Kit.{refl, needs}
-use Rattle.deck.proofs.load_integer.Statement.{statement}
-use Rattle.deck.proofs.load_integer.Tie as tie
+use Rattle.deck.proofs.load_term.Statement.{statement}
+use Rattle.deck.proofs.load_term.Tie as tie
 
 returns : tie.Need-returns
-unfolding loadInteger
+unfolding loadTerm
 returns c =
     let c₁ = c .before .before in
     let c₂ = c₁ .before in
@@ -18,8 +18,8 @@ returns c =
     (test-at (c₄ .name-fits .ensures) (record { regions = refl; opened = refl; locals = refl; names = refl; waiting = refl })
     (bind _ (c₃ .cell-for .ensures) ((c₁ .fill .ensures) _ _ (c₂ .of-term .ensures) _ _ _)))
 
-pub load-integer-spec : {M : Type 1} → statement M
-load-integer-spec =
+pub load-term-spec : {M : Type 1} → statement M
+load-term-spec =
     tie.close
     (tie.spec
     (λ c κs. search needs)
