@@ -1,8 +1,7 @@
 -- Laws of integers that stand as numbers of the code: sums, differences, what fits 32 bits, order.
 use Rattle.paper.proofs.Kit.{ℕ, zero, suc, _+_, _-_, _*_, _/_, _%_, _^_, _<_, _≤_, Bool, true, false, cond, _&&_, not, _≡_, refl, ap, _∙_, sym, arith, lt-ltb}
 use Rattle.paper.proofs.Kit.{le-ltb, eq-eqb, ne-eqb, ltb-true, ltb-false, ltb, eqb, ℤ, pos, negsuc, subℕ, negℤ, _+ℤ_, _-ℤ_, ltZ}
-use Rattle.paper.specs.Cell.{integer, termFits}
-use Rattle.paper.specs.Process.{equalZ}
+use Rattle.paper.specs.Term.{integer, termFits, isEqual}
 use Rattle.cells.specs.Layout.{valueOf}
 use Rattle.numbers.specs.Family.{wideOf}
 
@@ -89,5 +88,5 @@ neither u v = go (ltb u v) (ltb v u) refl refl
     go false true s t = sym (ne-eqb u v (λ h. omega (arith, ltb-true v u t)))
     go false false s t = sym (eq-eqb u v (omega (arith, ltb-false u v s, ltb-false v u t)))
 
-pub equal : (u v : ℕ) → equalZ (valueOf u) (valueOf v) ≡ eqb u v
+pub equal : (u v : ℕ) → isEqual .ofIntegers (valueOf u) (valueOf v) ≡ eqb u v
 equal u v = (λ i. not (order u v i) && not (order v u i)) ∙ neither u v

@@ -1,3 +1,3 @@
 -- Laws of integers as numbers of the code, and of what fits.
 pub mod Laws
-pub mod Put
+pub mod Given

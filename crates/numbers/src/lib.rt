@@ -2,10 +2,12 @@
 // function for both sorts; the sorts part in `combined`, `negated` and `holds` alone.
 ghost use Prim.Native.Nat.{_≤_};
 ghost use mathlib.Core.Path.{_≡_};
-ghost use Rattle.paper.specs.Term.{combined, holds, withZero, negated, plusOne};
+ghost use lib.Dec.{T};
+ghost use lib.Ieee.{Float, binary32, fits};
+ghost use Rattle.paper.specs.Term.{Term, integer, floating, bitsOf, combined, holds, withZero, negated};
 ghost use Rattle.paper.specs.Process.{pairAt, putTerm, combines, compares, compares0, J120, changes, J124, perform, then as andThen, goesOn};
 ghost use Rattle.cells.specs.Layout.{valueOf, termOf};
-ghost use Rattle.floats.specs.Kept.{operationOf, relationOf};
+ghost use Rattle.floats.specs.Kept.{keptOf, operationOf, relationOf};
 ghost use Rattle.undo.specs.Log.{Room};
 ghost use Rattle.undo.specs.Did.{Always, Top, Suits, Reads, Did};
 ghost use Rattle.numbers.specs.Family.{takesOf, changeOf, wideOf, pairIn, Gives};
@@ -66,13 +68,20 @@ fn pair_at(cells: &[u64], go: u32, c: u16, d: u16) -> GotPair
 {
     let t = acts::term_at(cells, go, c);
     let u = acts::term_at(cells, t.go, d);
+    let p = Pair {
+        floating: !cells::is_integer(t.x),
+        a: (t.x % cells::FLOATING) as u32,
+        b: (u.x % cells::FLOATING) as u32,
+    };
+    if u.go != 0 {
+        return GotPair { go: u.go, pair: p };
+    }
+    if cells::alike(t.x, u.x) {
+        return GotPair { go: u.go, pair: p };
+    }
     GotPair {
-        go: undo::refuse_if(u.go, !cells::alike(t.x, u.x), 23, d),
-        pair: Pair {
-            floating: !cells::is_integer(t.x),
-            a: (t.x % cells::FLOATING) as u32,
-            b: (u.x % cells::FLOATING) as u32,
-        },
+        go: undo::refused(23, d),
+        pair: p,
     }
 }
 
@@ -98,7 +107,7 @@ fn of_wide(x: u64) -> Given
 }
 
 fn of_kept(k: Kept) -> Given
-    ensures { λ r. ⌜ Keeps r k ⌝ }
+    ensures { λ r. ⌜ ((x : Float) → T (fits binary32 x) → k ≡ keptOf x → Gives r (floating (bitsOf x))) ⌝ }
 {
     match k {
         Kept::Bits(b) => Given::Term(cells::FLOATING + (b as u64)),
@@ -141,7 +150,7 @@ fn changed(negate: bool, x: u64) -> Given
 fn takes(negate: bool, x: u64) -> bool
     ensures { λ r. ⌜ r ≡ takesOf negate (termOf x) ⌝ }
 {
-    negate || cells::is_integer(x)
+    negate | cells::is_integer(x)
 }
 
 fn stands(k: Relation, u: u32, v: u32) -> bool
@@ -185,7 +194,7 @@ fn with_zero(x: u64) -> Pair
 // A term that an operation gives: 29 where none fits.
 fn put_term(cells: &mut [u64], log: &mut [u64], go: u32, c: u16, given: Given) -> u32
     requires { ⌜ Room (now log) 1 ⌝ }
-    ensures { λ r. ⌜ (t : Term) → Gives given t → Did Always 1 (putTerm c t) cells log go r tt ⌝ }
+    ensures { λ r. ⌜ ((t : Term) → Gives given t → Did Always 1 (putTerm c t) cells log go r tt) ⌝ }
 {
     if go != 0 {
         return go;

@@ -1,4 +1,4 @@
-use Rattle.numbers.proofs.Put.{reckoning}
+use Rattle.acts.proofs.Auto.{acting}
 use Rattle.paper.specs.Process.{compares}
 use Rattle.paper.proofs.Kit.{needs}
 use Rattle.numbers.proofs.compares.Statement.{statement}
@@ -6,7 +6,7 @@ use Rattle.numbers.proofs.compares.Tie as tie
 
 returns : tie.Need-returns
 unfolding compares
-returns c = search reckoning depth 20
+returns c = search acting depth 20
 
 pub compares-spec : {M : Type 1} → statement M
 compares-spec =
@@ -15,7 +15,6 @@ compares-spec =
     (λ c κs. search needs)
     (λ c κs. search needs)
     (λ c. search needs)
-    (λ c κs. search needs)
     (λ c. search needs)
     (λ c κs. search needs)
     (λ c κs. search needs)

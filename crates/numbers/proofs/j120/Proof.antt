@@ -1,5 +1,5 @@
 use Rattle.paper.specs.Process.{J120}
-use Rattle.numbers.proofs.Put.{reckoning}
+use Rattle.acts.proofs.Auto.{acting}
 use Rattle.paper.proofs.Kit.{needs}
 use Rattle.numbers.proofs.j120.Statement.{statement}
 use Rattle.numbers.proofs.j120.Tie as tie
@@ -13,7 +13,7 @@ returns c =
     let c₄ = c₃ .before in
     let c₅ = c₄ .before .before .before in
     let c₆ = c₅ .before .before in
-    search (reckoning, c₆ .own .ensures, c₅ .term-at .ensures, c₄ .of-term .ensures, c₃ .take-as .ensures, c₂ .copy-name .ensures, c₁ .gives1 .ensures) depth 20
+    search (acting, c₆ .own .ensures, c₅ .term-at .ensures, c₄ .of-term .ensures, c₃ .take-as .ensures, c₂ .copy-name .ensures, c₁ .gives1 .ensures) depth 20
 
 pub j120-spec : {M : Type 1} → statement M
 j120-spec =

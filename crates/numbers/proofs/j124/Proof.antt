@@ -33,7 +33,7 @@ returns c =
     let c₁₀ = c₉ .before .before in
     looks _ (any-sees (c₁₀ .own .ensures)) (reads _ (any (c₉ .target .ensures))
     (test (when _ (c₈ .is-process .ensures) (c₇ .refuse-if .ensures)) (test (when _ (c₆ .reserved .ensures) (c₅ .refuse-if2 .ensures))
-    (then (any (once _ _ (puts _ (c₄ .of-term .ensures) (c₃ .put .ensures)))) (alike (ap (gives 1) (c₂ .symbol .ensures)) (c₁ .gives1 .ensures))))))
+    (then (any (once _ _ (puts _ (c₄ .of-integer .ensures) (c₃ .put .ensures)))) (alike (ap (gives 1) (c₂ .symbol .ensures)) (c₁ .gives1 .ensures))))))
 
 pub j124-spec : {M : Type 1} → statement M
 j124-spec =
