@@ -1,3 +1,3 @@
--- Laws of integers as numbers of the code, and of what fits.
+-- Laws of integers as numbers of the code, of what an operation gives, and of pairs.
 pub mod Laws
-pub mod Given
+pub mod Fitting

@@ -1,6 +1,6 @@
 use Rattle.paper.proofs.Kit.{ap, sym, _∙_, pos, _+ℤ_, needs}
 use Rattle.paper.specs.Term.{integer}
-use Rattle.numbers.proofs.Given.{gives-as}
+use Rattle.numbers.proofs.Fitting.{gives-as}
 use Rattle.numbers.proofs.changed.Statement.{statement}
 use Rattle.numbers.proofs.changed.Tie as tie
 

@@ -1,7 +1,7 @@
 use Rattle.paper.proofs.Kit.{ap, needs}
 use Rattle.paper.specs.Term.{integer, floatOf}
 use Rattle.floats.specs.Kept.{operationOf}
-use Rattle.numbers.proofs.Given.{operation-fits, gives-as}
+use Rattle.numbers.proofs.Fitting.{operation-fits, gives-as}
 use Rattle.numbers.proofs.combined.Statement.{statement}
 use Rattle.numbers.proofs.combined.Tie as tie
 

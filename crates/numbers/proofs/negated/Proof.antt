@@ -3,7 +3,7 @@ use lib.Ieee.{neg}
 use Rattle.paper.specs.Term.{integer, floatOf, negated}
 use Rattle.cells.specs.Layout.{bitsOf}
 use Rattle.cells.proofs.Laws.{integer-is, floating-is}
-use Rattle.numbers.proofs.Given.{negative-fits, gives-as}
+use Rattle.numbers.proofs.Fitting.{negative-fits, gives-as}
 use Rattle.numbers.proofs.negated.Statement.{statement}
 use Rattle.numbers.proofs.negated.Tie as tie
 

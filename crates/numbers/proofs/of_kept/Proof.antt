@@ -1,5 +1,5 @@
 use Rattle.paper.proofs.Kit.{sym, _∙_, needs}
-use Rattle.numbers.proofs.Given.{kept-fits, kept-none}
+use Rattle.numbers.proofs.Fitting.{kept-fits, kept-none}
 use Rattle.numbers.proofs.of_kept.Statement.{statement}
 use Rattle.numbers.proofs.of_kept.Tie as tie
 

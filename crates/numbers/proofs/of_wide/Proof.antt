@@ -1,4 +1,4 @@
-use Rattle.numbers.proofs.Given.{wide-fits, wide-none}
+use Rattle.numbers.proofs.Fitting.{wide-fits, wide-none}
 use Rattle.numbers.proofs.of_wide.Statement.{statement}
 use Rattle.numbers.proofs.of_wide.Tie as tie
 

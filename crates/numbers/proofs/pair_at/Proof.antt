@@ -1,7 +1,7 @@
 use Rattle.paper.proofs.Kit.{sym, _∙_, needs}
 use Rattle.paper.specs.Process.{pairAt}
 use Rattle.undo.proofs.Early.{early}
-use Rattle.numbers.proofs.Given.{pair-is}
+use Rattle.numbers.proofs.Fitting.{pair-is}
 use Rattle.numbers.proofs.pair_at.Statement.{statement}
 use Rattle.numbers.proofs.pair_at.Tie as tie
 

@@ -4,7 +4,7 @@ use Rattle.undo.proofs.Log.{writes-most}
 use Rattle.steps.proofs.Sequence.{test}
 use Rattle.paper.specs.Process.{putTerm}
 use Rattle.paper.proofs.Kit.{arith, ap, not, needs}
-use Rattle.numbers.proofs.Given.{given-is, packed-as}
+use Rattle.numbers.proofs.Fitting.{given-is, packed-as}
 use Rattle.numbers.proofs.put_term.Statement.{statement}
 use Rattle.numbers.proofs.put_term.Tie as tie
 

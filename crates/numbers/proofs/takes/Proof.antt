@@ -1,6 +1,6 @@
 use Rattle.paper.proofs.Kit.{needs}
 use Rattle.cells.specs.Layout.{termOf}
-use Rattle.numbers.proofs.Given.{takes-is}
+use Rattle.numbers.proofs.Fitting.{takes-is}
 use Rattle.numbers.proofs.takes.Statement.{statement}
 use Rattle.numbers.proofs.takes.Tie as tie
 
