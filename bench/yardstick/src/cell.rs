@@ -91,11 +91,14 @@ pub enum Cell {
     Free(u16),
     Word(Word),
     Int(i32),
+    /// A floating term by its bits; in a store that is not sound they need not be finite.
+    Float(u32),
     Process,
 }
 
 const FREE: u64 = 1 << 48;
 const INT: u64 = 2 << 48;
+const FLOAT: u64 = INT + (1 << 32);
 const PROCESS: u64 = 3 << 48;
 const HALF_RANGE: i64 = 1 << 31;
 
@@ -103,12 +106,19 @@ impl Cell {
     pub const ZEROS: Cell = Cell::Word(Word::ZEROS);
     pub const EMPTY: Cell = Cell::Word(Word::EMPTY);
 
+    /// An integer or a floating term.
+    #[inline]
+    pub fn is_term(&self) -> bool {
+        matches!(self, Cell::Int(_) | Cell::Float(_))
+    }
+
     /// The cell in one number, as cases give it and the digest takes it.
     pub fn number(self) -> u64 {
         match self {
             Cell::Word(w) => (w.p as u64) << 40 | (w.q as u64) << 32 | (w.symb as u64) << 16 | w.link as u64,
             Cell::Free(link) => FREE + link as u64,
             Cell::Int(i) => INT + (i as i64 + HALF_RANGE) as u64,
+            Cell::Float(bits) => FLOAT + bits as u64,
             Cell::Process => PROCESS,
         }
     }
@@ -121,7 +131,8 @@ impl Cell {
                 Some(Cell::Word(Word { p: (low >> 40) as u8, q: (low >> 32) as u8, symb: (low >> 16) as u16, link: low as u16 }))
             }
             1 => u16::try_from(low).ok().map(Cell::Free),
-            2 => i32::try_from(low as i64 - HALF_RANGE).ok().map(Cell::Int),
+            2 if n < FLOAT => i32::try_from(low as i64 - HALF_RANGE).ok().map(Cell::Int),
+            2 => u32::try_from(n - FLOAT).ok().map(Cell::Float),
             3 if low == 0 => Some(Cell::Process),
             _ => None,
         }

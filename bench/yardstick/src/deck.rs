@@ -7,6 +7,7 @@ use crate::process::is_listed;
 use crate::record::{self, Field, Name, Record, MANY_LOCALS};
 use crate::regions::{Regions, LETTER_J};
 use crate::sound::size_fits;
+use crate::term::Term;
 
 /// A refused deck leaves all cells words of zeros; N out of range leaves them untouched.
 pub fn load(deck: &[u8], cells: &mut [Cell]) -> Result<Regions, LoadError> {
@@ -34,7 +35,7 @@ const NO_LOCAL: Local = Local { cell: 0, has_word: false };
 struct Loader<'a> {
     cells: &'a mut [Cell],
     regions: Regions,
-    /// A word, integer or start has come: the cells are laid out, and regions come too late.
+    /// A word, data term or start has come: the cells are laid out, and regions come too late.
     laid_out: bool,
     /// Cells are taken in ascending order: all from here on are free.
     next_free: usize,
@@ -102,7 +103,7 @@ impl<'a> Loader<'a> {
                 }
             }
             Record::Data { name, symb, link } => self.word(name, 0, data_tag(symb), symb, link)?,
-            Record::Integer { name, value } => self.integer(name, value)?,
+            Record::Term { name, term } => self.term(name, term)?,
             Record::Start { letter, number } => return self.start(letter, number).map(Some),
         }
         Ok(None)
@@ -150,11 +151,11 @@ impl<'a> Loader<'a> {
         Ok(())
     }
 
-    fn integer(&mut self, name: Name, value: i32) -> Result<(), Fault> {
+    fn term(&mut self, name: Name, term: Term) -> Result<(), Fault> {
         self.lay_out();
         self.check_name(name, false)?;
         let c = self.cell_for(name)?;
-        self.fill(c, Cell::Int(value));
+        self.fill(c, term.cell());
         Ok(())
     }
 

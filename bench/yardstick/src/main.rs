@@ -13,6 +13,7 @@ mod record;
 mod regions;
 mod sound;
 mod store;
+mod term;
 mod undo;
 mod walk;
 

@@ -4,6 +4,7 @@ use crate::answer::Refusal::{self, NoRoom};
 use crate::cell::{Symbol, LOCAL, REGIONAL};
 use crate::regions::Regions;
 use crate::store::Machine;
+use crate::term::Term;
 
 /// The longest is `-`, ten digits and a line feed.
 const LONGEST: usize = 12;
@@ -35,12 +36,17 @@ impl Line {
         line
     }
 
-    pub fn integer(i: i32) -> Line {
+    pub fn term(term: Term) -> Line {
         let mut line = Line::new();
-        if i < 0 {
-            line.add(b'-');
+        match term {
+            Term::Int(i) => {
+                if i < 0 {
+                    line.add(b'-');
+                }
+                line.digits(i.unsigned_abs());
+            }
+            Term::Float(x) => line.hex_digits(x.to_bits()),
         }
-        line.digits(i.unsigned_abs());
         line.add(b'\n');
         line
     }
@@ -59,6 +65,14 @@ impl Line {
             self.digits(n / 10);
         }
         self.add(b'0' + (n % 10) as u8);
+    }
+
+    /// All eight.
+    fn hex_digits(&mut self, n: u32) {
+        const DIGITS: &[u8; 16] = b"0123456789ABCDEF";
+        for shift in (0..32).step_by(4).rev() {
+            self.add(DIGITS[(n >> shift) as usize % 16]);
+        }
     }
 
     fn bytes(&self) -> &[u8] {

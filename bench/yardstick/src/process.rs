@@ -4,6 +4,7 @@ use crate::answer::Refusal::{self, *};
 use crate::cell::*;
 use crate::print::Line;
 use crate::store::{is_own, not_own, Machine};
+use crate::term::{Pair, Term};
 
 /// The loader asks this; a run finds out in `perform`.
 pub fn is_listed(n: u16) -> bool {
@@ -46,28 +47,28 @@ impl Machine<'_> {
                 let c = self.take(Cell::EMPTY)?;
                 self.push(Symbol::internal(c))
             }
-            110 => self.combine(i32::checked_add),
-            111 => self.combine(i32::checked_sub),
-            114 => self.compare(|a, b| a == b),
-            115 => self.compare(|a, b| a > b),
-            116 => self.compare(|a, b| a < b),
-            117 => self.compare_zero(|a| a == 0),
-            118 => self.compare_zero(|a| a > 0),
-            119 => self.compare_zero(|a| a < 0),
-            120 => self.copy_integer(),
-            123 => self.alter(i32::checked_neg),
+            110 => self.combine(Pair::sum),
+            111 => self.combine(Pair::difference),
+            114 => self.compare(Pair::is_equal),
+            115 => self.compare(Pair::is_above),
+            116 => self.compare(Pair::is_below),
+            117 => self.compare_zero(Pair::is_equal),
+            118 => self.compare_zero(Pair::is_above),
+            119 => self.compare_zero(Pair::is_below),
+            120 => self.copy_term(),
+            123 => self.alter(Term::negated),
             124 => self.clear(),
-            125 => self.alter(|a| a.checked_add(1)),
+            125 => self.alter(Term::next),
             130 => self.test_tag(REGIONAL),
-            131 => self.test_integer(),
+            131 => self.test_term(),
             132 => self.test_tag(LOCAL),
             134 => self.test_tag(INTERNAL),
             136 => self.replace(Symbol::local(self.h0().symb)),
             138 => self.replace(Symbol::internal(self.h0().symb)),
             152 => self.print_and_pop(Line::symbol(self.regions, self.h0().symbol())),
             153 => {
-                let i = self.integer_at(self.h0().symb)?;
-                self.print_and_pop(Line::integer(i))
+                let term = self.term_at(self.h0().symb)?;
+                self.print_and_pop(Line::term(term))
             }
             _ => Err(NotListed),
         }
@@ -207,42 +208,41 @@ impl Machine<'_> {
         self.replace(copy_name(x, c))
     }
 
-    fn combine(&mut self, f: impl Fn(i32, i32) -> Option<i32>) -> Result<(), Refusal> {
+    /// What (0) holds takes the sort of (1) and (2).
+    fn combine(&mut self, f: impl Fn(Pair) -> Result<Term, Refusal>) -> Result<(), Refusal> {
         let w0 = self.h0();
         let w1 = self.below(w0)?;
         let w2 = self.below(w1)?;
         let x = w0.symbol();
-        self.integer_to(x.num)?;
-        let a = self.integer_at(w1.symb)?;
-        let b = self.integer_at(w2.symb)?;
-        self.put(x.num, Cell::Int(f(a, b).ok_or(OutOfRange)?));
+        self.term_to(x.num)?;
+        let result = f(self.pair_at(w1.symb, w2.symb)?)?;
+        self.put(x.num, result.cell());
         self.pops(2)?;
         self.replace(x)
     }
 
-    fn compare(&mut self, f: impl Fn(i32, i32) -> bool) -> Result<(), Refusal> {
+    fn compare(&mut self, f: impl Fn(Pair) -> bool) -> Result<(), Refusal> {
         let (x0, x1) = self.two_inputs()?;
-        let a = self.integer_at(x0.num)?;
-        let b = self.integer_at(x1.num)?;
-        self.tests(2, f(a, b))
+        let plus = f(self.pair_at(x0.num, x1.num)?);
+        self.tests(2, plus)
     }
 
-    fn compare_zero(&mut self, f: impl Fn(i32) -> bool) -> Result<(), Refusal> {
-        let a = self.integer_at(self.h0().symb)?;
-        self.tests(1, f(a))
+    fn compare_zero(&mut self, f: impl Fn(Pair) -> bool) -> Result<(), Refusal> {
+        let plus = f(self.term_at(self.h0().symb)?.and_zero());
+        self.tests(1, plus)
     }
 
-    fn copy_integer(&mut self) -> Result<(), Refusal> {
+    fn copy_term(&mut self) -> Result<(), Refusal> {
         let x = self.h0().symbol();
-        let i = self.integer_at(x.num)?;
-        let c = self.take(Cell::Int(i))?;
+        let term = self.term_at(x.num)?;
+        let c = self.take(term.cell())?;
         self.replace(copy_name(x, c))
     }
 
-    fn alter(&mut self, f: impl Fn(i32) -> Option<i32>) -> Result<(), Refusal> {
+    fn alter(&mut self, f: impl Fn(Term) -> Result<Term, Refusal>) -> Result<(), Refusal> {
         let x = self.h0().symbol();
-        let i = self.integer_to(x.num)?;
-        self.put(x.num, Cell::Int(f(i).ok_or(OutOfRange)?));
+        let result = f(self.term_to(x.num)?)?;
+        self.put(x.num, result.cell());
         self.replace(x)
     }
 
@@ -263,9 +263,9 @@ impl Machine<'_> {
         self.tests(1, plus)
     }
 
-    fn test_integer(&mut self) -> Result<(), Refusal> {
+    fn test_term(&mut self) -> Result<(), Refusal> {
         let c = self.h0().symb;
-        let plus = matches!(self.touch(c)?, Cell::Int(_));
+        let plus = self.touch(c)?.is_term();
         not_own(c)?;
         self.tests(1, plus)
     }

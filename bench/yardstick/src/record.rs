@@ -2,6 +2,7 @@
 
 use crate::answer::Fault::{self, *};
 use crate::regions::LARGEST_NUMBER;
+use crate::term::Term;
 
 pub const MANY_LOCALS: u16 = 1_000;
 
@@ -24,7 +25,7 @@ pub enum Record {
     Region { letter: u8, count: u16 },
     Routine { name: Name, p: u8, q: u8, symb: Field, link: Field },
     Data { name: Name, symb: Field, link: Field },
-    Integer { name: Name, value: i32 },
+    Term { name: Name, term: Term },
     Start { letter: u8, number: u16 },
 }
 
@@ -35,7 +36,7 @@ pub fn parse(bytes: &[u8]) -> Result<(Record, usize), Fault> {
         1 | 5 => 4,
         2 => 12,
         3 => 10,
-        4 => 8,
+        4 | 6 => 8,
         _ => return Err(UnknownKind),
     };
     let body = bytes.get(1..len).ok_or(PastEnd)?;
@@ -44,6 +45,7 @@ pub fn parse(bytes: &[u8]) -> Result<(Record, usize), Fault> {
         2 => routine(body)?,
         3 => data(body)?,
         4 => integer(body)?,
+        6 => floating(body)?,
         _ => start(body)?,
     };
     Ok((record, len))
@@ -75,8 +77,15 @@ fn data(b: &[u8]) -> Result<Record, Fault> {
 }
 
 fn integer(b: &[u8]) -> Result<Record, Fault> {
-    let value = i32::from_be_bytes([b[3], b[4], b[5], b[6]]);
-    Ok(Record::Integer { name: name(b)?, value })
+    Ok(Record::Term { name: name(b)?, term: Term::Int(i32::from_be_bytes([b[3], b[4], b[5], b[6]])) })
+}
+
+fn floating(b: &[u8]) -> Result<Record, Fault> {
+    let x = f32::from_be_bytes([b[3], b[4], b[5], b[6]]);
+    if !x.is_finite() {
+        return Err(BadField);
+    }
+    Ok(Record::Term { name: name(b)?, term: Term::Float(x) })
 }
 
 fn start(b: &[u8]) -> Result<Record, Fault> {

@@ -35,6 +35,7 @@ fn is_sound(cells: &[Cell], regions: &Regions) -> bool {
             }
             Cell::Word(w) => word_is_sound(c, w, n) && ((c < J0 && c != H3) || c >= FIRST_DECK),
             Cell::Int(_) => c == H3 || c >= FIRST_DECK,
+            Cell::Float(bits) => c >= FIRST_DECK && f32::from_bits(bits).is_finite(),
             Cell::Process => is_j(c),
         };
         if !holds {

@@ -5,6 +5,7 @@
 use crate::answer::Refusal::{self, *};
 use crate::cell::*;
 use crate::regions::Regions;
+use crate::term::{Pair, Term};
 use crate::undo::Undo;
 use crate::walk::Trail;
 use std::mem;
@@ -210,21 +211,36 @@ impl<'a> Machine<'a> {
 
     /// 21, 22, 23
     #[inline(always)]
-    pub fn integer_at(&self, c: u16) -> Result<i32, Refusal> {
+    pub fn term_at(&self, c: u16) -> Result<Term, Refusal> {
         match &self.cells[c as usize] {
-            Cell::Int(_) if c == H3 => Ok(self.tally()),
-            Cell::Int(i) => Ok(*i),
+            Cell::Int(_) if c == H3 => Ok(Term::Int(self.tally())),
+            Cell::Int(i) => Ok(Term::Int(*i)),
+            Cell::Float(bits) => Ok(Term::Float(f32::from_bits(*bits))),
             x => Err(other_kind(c, x)),
         }
     }
 
     /// 21, 22, 27, 23
     #[inline(always)]
-    pub fn integer_to(&self, c: u16) -> Result<i32, Refusal> {
-        match &self.cells[c as usize] {
-            Cell::Int(_) if c == H3 => Err(OwnCell),
-            Cell::Int(i) => Ok(*i),
-            x => Err(other_kind(c, x)),
+    pub fn term_to(&self, c: u16) -> Result<Term, Refusal> {
+        if c == H3 {
+            return Err(OwnCell);
+        }
+        self.term_at(c)
+    }
+
+    /// Two terms, met in this order; the second has to be of the first one's sort. 21, 22, 23, then of the second 21, 22, 23
+    #[inline(always)]
+    pub fn pair_at(&self, c: u16, d: u16) -> Result<Pair, Refusal> {
+        match self.term_at(c)? {
+            Term::Int(a) => match self.term_at(d)? {
+                Term::Int(b) => Ok(Pair::Ints(a, b)),
+                Term::Float(_) => Err(WrongKind),
+            },
+            Term::Float(a) => match self.term_at(d)? {
+                Term::Float(b) => Ok(Pair::Floats(a, b)),
+                Term::Int(_) => Err(WrongKind),
+            },
         }
     }
 

@@ -57,7 +57,7 @@ impl Machine<'_> {
         })
     }
 
-    /// The LINK chain of c is freed, or an integer alone. 21, 22, 23, 27, 31, 24
+    /// The LINK chain of c is freed, or a data term alone. 21, 22, 23, 27, 31, 24
     pub fn erase_chain(&mut self, c: u16) -> Result<(), Refusal> {
         self.on_trail(|m, trail| {
             m.walk_chain(c, trail)?;
@@ -119,7 +119,7 @@ impl Machine<'_> {
 
     /// 21, 22, 23, 27, 31
     fn walk_chain(&self, c: u16, trail: &mut Trail) -> Result<(), Refusal> {
-        if let Cell::Int(_) = self.touch(c)? {
+        if self.touch(c)?.is_term() {
             return trail.add(c);
         }
         let mut at = c;
