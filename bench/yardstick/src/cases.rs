@@ -69,13 +69,18 @@ enum Case<'a> {
 }
 
 /// Answers cases from one store and one output room, which are used again for each.
-#[derive(Default)]
 pub struct Desk {
     cells: Vec<Cell>,
     out: Vec<u8>,
+    /// A line has the cells themselves, not their digest.
+    in_full: bool,
 }
 
 impl Desk {
+    pub fn new(in_full: bool) -> Desk {
+        Desk { cells: Vec::new(), out: Vec::new(), in_full }
+    }
+
     /// Whether there was a whole case.
     pub fn answer(&mut self, input: &mut Input, to: &mut impl Write) -> io::Result<bool> {
         let case = match self.read(input) {
@@ -200,7 +205,7 @@ impl Desk {
 
     /// Where an action is refused the line has the cells as given, whatever the actions before it did.
     fn demand3(&mut self, regions: &Regions, to: &mut impl Write) -> io::Result<()> {
-        let given = digest(&self.cells);
+        let given = self.told();
         let mut refused = false;
         write!(to, "D")?;
         for action in [plain::preserve, plain::copy, plain::erase] {
@@ -222,7 +227,16 @@ impl Desk {
     }
 
     fn end(&self, to: &mut impl Write) -> io::Result<()> {
-        writeln!(to, " | {}", digest(&self.cells))
+        writeln!(to, " | {}", self.told())
+    }
+
+    /// The cells, as a line has them.
+    fn told(&self) -> String {
+        if !self.in_full {
+            return digest(&self.cells).to_string();
+        }
+        let texts: Vec<String> = self.cells.iter().map(Cell::to_string).collect();
+        texts.join(" ")
     }
 }
 

@@ -1,5 +1,7 @@
 //! A cell, the word in it, a symbol, and the numbers of the cells that every store has.
 
+use std::fmt;
+
 pub const SMALLEST_N: usize = 256;
 pub const LARGEST_N: usize = 65_535;
 
@@ -135,6 +137,19 @@ impl Cell {
             2 => u32::try_from(n - FLOAT).ok().map(Cell::Float),
             3 if low == 0 => Some(Cell::Process),
             _ => None,
+        }
+    }
+}
+
+/// As the cases write it.
+impl fmt::Display for Cell {
+    fn fmt(&self, to: &mut fmt::Formatter) -> fmt::Result {
+        match self {
+            Cell::Word(w) => write!(to, "w{},{},{},{}", w.p, w.q, w.symb, w.link),
+            Cell::Free(link) => write!(to, "f{}", link),
+            Cell::Int(i) => write!(to, "i{}", i),
+            Cell::Float(bits) => write!(to, "x{:08x}", bits),
+            Cell::Process => write!(to, "p"),
         }
     }
 }

@@ -1,5 +1,5 @@
 //! An ordinary interpreter of the rules of document 01, against which the proved machine is measured. It reads cases from
-//! standard input and answers each in a line.
+//! standard input and answers each in a line, which has a digest of the cells, or with the argument `cells` the cells as text.
 
 mod answer;
 mod cases;
@@ -18,6 +18,7 @@ mod undo;
 mod walk;
 
 use cases::{Desk, Input};
+use std::env;
 use std::io::{self, BufWriter, Read, Write};
 
 fn main() -> io::Result<()> {
@@ -25,7 +26,7 @@ fn main() -> io::Result<()> {
     io::stdin().lock().read_to_end(&mut bytes)?;
     let mut input = Input(&bytes);
     let mut to = BufWriter::new(io::stdout().lock());
-    let mut desk = Desk::default();
+    let mut desk = Desk::new(env::args().nth(1).as_deref() == Some("cells"));
     while !input.0.is_empty() {
         if !desk.answer(&mut input, &mut to)? {
             writeln!(to, "no whole case")?;
