@@ -56,9 +56,9 @@ impl Machine<'_> {
             118 => self.compare_zero(Pair::is_above),
             119 => self.compare_zero(Pair::is_below),
             120 => self.copy_term(),
-            123 => self.alter(Term::negated),
+            123 => self.negate(),
             124 => self.clear(),
-            125 => self.alter(Term::next),
+            125 => self.add_one(),
             130 => self.test_tag(REGIONAL),
             131 => self.test_term(),
             132 => self.test_tag(LOCAL),
@@ -239,10 +239,18 @@ impl Machine<'_> {
         self.replace(copy_name(x, c))
     }
 
-    fn alter(&mut self, f: impl Fn(Term) -> Result<Term, Refusal>) -> Result<(), Refusal> {
+    fn negate(&mut self) -> Result<(), Refusal> {
         let x = self.h0().symbol();
-        let result = f(self.term_to(x.num)?)?;
+        let result = self.term_to(x.num)?.negated()?;
         self.put(x.num, result.cell());
+        self.replace(x)
+    }
+
+    /// Of integers only.
+    fn add_one(&mut self) -> Result<(), Refusal> {
+        let x = self.h0().symbol();
+        let i = self.integer_to(x.num)?;
+        self.put(x.num, Cell::Int(i.checked_add(1).ok_or(OutOfRange)?));
         self.replace(x)
     }
 

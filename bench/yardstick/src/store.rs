@@ -229,6 +229,16 @@ impl<'a> Machine<'a> {
         self.term_at(c)
     }
 
+    /// 21, 22, 27, 23
+    #[inline(always)]
+    pub fn integer_to(&self, c: u16) -> Result<i32, Refusal> {
+        match &self.cells[c as usize] {
+            Cell::Int(_) if c == H3 => Err(OwnCell),
+            Cell::Int(i) => Ok(*i),
+            x => Err(other_kind(c, x)),
+        }
+    }
+
     /// Two terms, met in this order; the second has to be of the first one's sort. 21, 22, 23, then of the second 21, 22, 23
     #[inline(always)]
     pub fn pair_at(&self, c: u16, d: u16) -> Result<Pair, Refusal> {

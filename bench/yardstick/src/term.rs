@@ -1,6 +1,6 @@
 //! The data terms, integers and floating ones, and what the processes do with them.
 
-use crate::answer::Refusal::{self, *};
+use crate::answer::Refusal::{self, OutOfRange};
 use crate::cell::Cell;
 
 #[derive(Clone, Copy)]
@@ -25,15 +25,6 @@ impl Term {
         match self {
             Term::Int(i) => int(i.checked_neg()),
             Term::Float(x) => float(-x),
-        }
-    }
-
-    /// Of integers only. 23, 29
-    #[inline(always)]
-    pub fn next(self) -> Result<Term, Refusal> {
-        match self {
-            Term::Int(i) => int(i.checked_add(1)),
-            Term::Float(_) => Err(WrongKind),
         }
     }
 
