@@ -1,4 +1,4 @@
-//! What the machine's own arithmetic of 32 bits gives. For each line of standard input, the bits of a and b as two hex numbers, it
+//! What the processor's own arithmetic of 32 bits gives. For each line of standard input, the bits of a and b as two hex numbers, it
 //! writes the bits of a + b and a - b, and `E`, `A` or `B` for a equal, above or below b. Nothing of the yardstick is in it.
 
 use std::io::{self, BufRead};
