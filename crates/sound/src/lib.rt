@@ -47,7 +47,9 @@ fn term_sound(x: u64, c: usize) -> bool
     if x < cells::TERM + cells::FLOATING {
         return (c == H3) | (FIRST_DECK <= c);
     }
-    (x < cells::TERM + cells::SORTS) & (FIRST_DECK <= c) & floats::is_finite((x % cells::FLOATING) as u32)
+    (x < cells::TERM + cells::SORTS)
+        & (FIRST_DECK <= c)
+        & floats::is_finite((x % cells::FLOATING) as u32)
 }
 
 // Whether x may be the number of cell c, of n cells of which the reserved ones end at `end`.
