@@ -4,7 +4,7 @@ ghost use mathlib.Core.Path.{_≡_};
 ghost use mathlib.Core.Bool.{not};
 ghost use lib.Dec.{T};
 ghost use lib.Ieee.{isNan, neg};
-ghost use Rattle.paper.specs.Term.{floatOf, isFinite};
+ghost use Rattle.paper.specs.Term.{floatOf, isFinite, plus, minus};
 ghost use Rattle.floats.specs.Kept.{keptOf, operationOf, relationOf};
 
 // The sign bit, and the bits of infinity: those of a finite number are below it but for the sign.
@@ -49,7 +49,29 @@ fn keep(x: f32) -> Kept
     Kept::NotFinite
 }
 
-// The sum, or the difference where `minus` holds: "rounded once, as one operation of the format".
+// "rounded once, as one operation of the format"
+fn sum(x: f32, y: f32) -> f32
+    ensures { λ r. ⌜ r ≡ plus .ofFloats x y ⌝ }
+{
+    x + y
+}
+
+fn difference(x: f32, y: f32) -> f32
+    ensures { λ r. ⌜ r ≡ minus .ofFloats x y ⌝ }
+{
+    x - y
+}
+
+fn operated(minus: bool, x: f32, y: f32) -> f32
+    ensures { λ r. ⌜ r ≡ operationOf minus .ofFloats x y ⌝ }
+{
+    if minus {
+        return difference(x, y);
+    }
+    sum(x, y)
+}
+
+// The sum, or the difference where `minus` holds: its bits, where it is finite.
 pub fn combined(minus: bool, a: u32, b: u32) -> Kept
     ensures { λ r. ⌜ r ≡ keptOf (operationOf minus .ofFloats (floatOf a) (floatOf b)) ⌝ }
 {
@@ -57,10 +79,7 @@ pub fn combined(minus: bool, a: u32, b: u32) -> Kept
         if is_finite(b) {
             let x = f32::from_bits(a);
             let y = f32::from_bits(b);
-            if minus {
-                return keep(x - y);
-            }
-            return keep(x + y);
+            return keep(operated(minus, x, y));
         }
     }
     Kept::NotFinite

@@ -1,5 +1,7 @@
 -- Where both terms are finite the operation gives no NaN, so its bits may be asked for; where one is not, neither is what it gives.
-use Rattle.paper.proofs.Kit.{sym, ap, _∙_, Bool, true, false, needs}
+use Rattle.paper.proofs.Kit.{sym, ap, _∙_, Bool, not, subst, needs}
+use lib.Dec.{T}
+use lib.Ieee.{Float, isNan}
 use Rattle.paper.specs.Term.{floatOf}
 use Rattle.floats.specs.Kept.{keptOf, operationOf}
 use Rattle.floats.proofs.Laws.{answered, finite-pattern, gives-number, operates, refuses}
@@ -18,33 +20,20 @@ keep-requires : tie.Need-keep-requires
 keep-requires c κs =
     let c₄ = c .before .before .before .before in
     let x = c₄ .before .args in
-    gives-number true (x .a) (x .b) (answered (c₄ .is-finite .ensures) (c .before .before .before .if1 .taken))
-    (answered (c .before .before .is-finite2 .ensures) (c .before .if2 .taken))
-
-keep-requires-2 : tie.Need-keep-requires-2
-keep-requires-2 c κs =
-    let c₄ = c .before .before .before .before in
-    let x = c₄ .before .args in
-    gives-number false (x .a) (x .b) (answered (c₄ .is-finite .ensures) (c .before .before .before .if1 .taken))
-    (answered (c .before .before .is-finite2 .ensures) (c .before .if2 .taken))
+    subst (λ (z : Float). T (not (isNan z))) (sym (c .operated .ensures))
+    (gives-number (x .minus) (x .a) (x .b) (answered (c₄ .is-finite .ensures) (c .before .before .before .if1 .taken))
+    (answered (c .before .before .is-finite2 .ensures) (c .before .if2 .taken)))
 
 returns : tie.Need-returns
-returns c =
-    let x = c .before .before .before .before .before .before .args in
-    c .keep .ensures ∙ ap (λ (m : Bool). keptOf (operationOf m .ofFloats (floatOf (x .a)) (floatOf (x .b)))) (sym (c .before .if3 .taken))
+returns c = c .keep .ensures ∙ ap keptOf (c .before .operated .ensures)
 
 returns-2 : tie.Need-returns-2
 returns-2 c =
-    let x = c .before .before .before .before .before .before .args in
-    c .keep2 .ensures ∙ ap (λ (m : Bool). keptOf (operationOf m .ofFloats (floatOf (x .a)) (floatOf (x .b)))) (sym (c .before .if3 .left))
-
-returns-3 : tie.Need-returns-3
-returns-3 c =
     let x = c .before .before .before .before .args in
     refuses (operationOf (x .minus) .ofFloats (floatOf (x .a)) (floatOf (x .b))) (operates (x .minus) .right (floatOf (x .a)) (floatOf (x .b)) (answered (c .before .is-finite2 .ensures) (c .if2 .left)))
 
-returns-4 : tie.Need-returns-4
-returns-4 c =
+returns-3 : tie.Need-returns-3
+returns-3 c =
     let x = c .before .before .args in
     refuses (operationOf (x .minus) .ofFloats (floatOf (x .a)) (floatOf (x .b))) (operates (x .minus) .left (floatOf (x .a)) (floatOf (x .b)) (answered (c .before .is-finite .ensures) (c .if1 .left)))
 
@@ -56,9 +45,8 @@ combined-spec =
     (λ c κs. search needs)
     float-from-bits-x
     float-from-bits-y
+    (λ c κs. search needs)
     keep-requires
     returns
-    keep-requires-2
     returns-2
-    returns-3
-    returns-4)
+    returns-3)
