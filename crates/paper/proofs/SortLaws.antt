@@ -1,5 +1,5 @@
 -- What CR 9 and its readings say of the two sorts of term, as laws of the definitions.
-use Rattle.paper.proofs.Kit.{_≡_, refl, sym, ap, subst, _∙_, Bool, true, false, not, cond, ℕ, zero, suc, _+_, _-_, _/_, _%_, _<_, _≤_, arith, ltb, leb, eqb}
+use Rattle.paper.proofs.Kit.{_≡_, refl, sym, ap, subst, _∙_, List, [], _∷_, map, Bool, true, false, not, cond, ℕ, zero, suc, _+_, _-_, _/_, _%_, _<_, _≤_, arith, ltb, leb, eqb}
 use Rattle.paper.proofs.Kit.{lt-ltb, le-ltb, lt-leb, le-leb, ltb-true, ltb-false, clash}
 use lib.Dec.{T}
 use lib.Ieee.{Float, binary32, odd, neg, sub, inf, nan, ofFields, ofBits}
@@ -7,7 +7,7 @@ use lib.Ieee.Bits.{toBits-ofBits}
 use lib.Ieee.Scale.{finite}
 use Rattle.paper.specs.Limits.{halfRange}
 use Rattle.paper.specs.Term.{Term, integer, floating, floatOf, bitsOf, isFinite, termFits, alike, pairOf, floats, withZero, Operation, plus, minus}
-use Rattle.paper.specs.Term.{isEqual, isBelow, combined, holds, negated, termOpen}
+use Rattle.paper.specs.Term.{isEqual, isAbove, isBelow, combined, holds, negated, termOpen}
 use Rattle.paper.specs.Cell.{term, cellAt, State}
 use Rattle.paper.specs.Act.{done, refused, _>>=_, _>>_, touch, asTerm, termAt, WrongKind, primOpen}
 use Rattle.paper.specs.Process.{pairAt}
@@ -112,61 +112,30 @@ module _ (b : ℕ) (h : termFits (floating b) ≡ true) where
   pub negated-fits : termFits (negated (floating b)) ≡ true
   negated-fits = ap termFits negated-turned ∙ and-both _ _ (lt-ltb (turned b) (halfRange + halfRange) (turned-below b below)) finite-turned
 
--- cases that the definitions compute: 1 is 3F800000, the largest number 7F7FFFFF, -0 80000000
+-- what the definitions compute: 1 is 3F800000, the largest number 7F7FFFFF, -0 80000000
 abbrev sum : ℕ → ℕ → Term
 sum a b = combined plus (floats a b)
 
 abbrev difference : ℕ → ℕ → Term
 difference a b = combined minus (floats a b)
 
--- half a unit more than 1 goes to the even number, 1; than the next number, up; the bits of 0.1 and 0.2 give those of 0.3 and one more
-pub tie-down : sum 0x3F800000 0x33800000 ≡ floating 0x3F800000
+-- half a unit more than 1 goes to the even number, 1; than the next number, up; less than half a unit more than the largest goes to that; denormal
+-- results are kept; x - x is 0, -0 - 0 is -0, -0 + 0 is 0, -0 + -0 is -0 (reading 9.3); J123 of 0 is -0 (reading 9.4)
+pub sums : (
+    sum 0x3F800000 0x33800000 ∷ sum 0x3F800001 0x33800000 ∷ sum 0x7F7FFFFF 0x72FFFFFF ∷ difference 0x00800000 0x007FFFFF
+    ∷ difference 0xC0490FDB 0xC0490FDB ∷ difference 0x80000000 0 ∷ sum 0x80000000 0 ∷ sum 0x80000000 0x80000000 ∷ negated (floating 0) ∷ [])
+    ≡ map floating (
+    0x3F800000 ∷ 0x3F800002 ∷ 0x7F7FFFFF ∷ 1
+    ∷ 0 ∷ 0x80000000 ∷ 0 ∷ 0x80000000 ∷ 0x80000000 ∷ [])
 unfolding termOpen
-tie-down = refl
+sums = refl
 
-pub tie-up : sum 0x3F800001 0x33800000 ≡ floating 0x3F800002
+-- "a result that is not finite is 29": half a unit more than the largest number
+pub not-finite : termFits (sum 0x7F7FFFFF 0x73000000) ≡ false
 unfolding termOpen
-tie-up = refl
+not-finite = refl
 
--- "a result that is not finite is 29"; the largest number and less than half a unit of it is finite
-pub too-large : termFits (sum 0x7F7FFFFF 0x73000000) ≡ false
+-- "-0 equals 0 in tests", and is neither above nor below it
+pub zeros : map (λ r. holds r (withZero (floating 0x80000000))) (isEqual ∷ isAbove ∷ isBelow ∷ []) ≡ true ∷ false ∷ false ∷ []
 unfolding termOpen
-too-large = refl
-
-pub just-fits : sum 0x7F7FFFFF 0x72FFFFFF ≡ floating 0x7F7FFFFF
-unfolding termOpen
-just-fits = refl
-
--- denormal results are kept; x - x is 0, -0 - 0 is -0, -0 + 0 is 0, -0 + -0 is -0 (reading 9.3)
-pub smallest : difference 0x00800000 0x007FFFFF ≡ floating 1
-unfolding termOpen
-smallest = refl
-
-pub nothing-left : difference 0xC0490FDB 0xC0490FDB ≡ floating 0
-unfolding termOpen
-nothing-left = refl
-
-pub minus-zero : difference 0x80000000 0 ≡ floating 0x80000000
-unfolding termOpen
-minus-zero = refl
-
-pub plus-zero : sum 0x80000000 0 ≡ floating 0
-unfolding termOpen
-plus-zero = refl
-
-pub both-minus : sum 0x80000000 0x80000000 ≡ floating 0x80000000
-unfolding termOpen
-both-minus = refl
-
--- J123 of 0 is -0 (reading 9.4); "-0 equals 0 in tests"
-pub zero-negated : negated (floating 0) ≡ floating 0x80000000
-unfolding termOpen
-zero-negated = refl
-
-pub zeros-equal : holds isEqual (withZero (floating 0x80000000)) ≡ true
-unfolding termOpen
-zeros-equal = refl
-
-pub zero-not-below : holds isBelow (withZero (floating 0x80000000)) ≡ false
-unfolding termOpen
-zero-not-below = refl
+zeros = refl

@@ -30,12 +30,16 @@ returns c = c .keep .ensures ∙ ap keptOf (c .before .operated .ensures)
 returns-2 : tie.Need-returns-2
 returns-2 c =
     let x = c .before .before .before .before .args in
-    refuses (operationOf (x .minus) .ofFloats (floatOf (x .a)) (floatOf (x .b))) (operates (x .minus) .right (floatOf (x .a)) (floatOf (x .b)) (answered (c .before .is-finite2 .ensures) (c .if2 .left)))
+    let a = floatOf (x .a) in
+    let b = floatOf (x .b) in
+    refuses (operationOf (x .minus) .ofFloats a b) (operates (x .minus) .right a b (answered (c .before .is-finite2 .ensures) (c .if2 .left)))
 
 returns-3 : tie.Need-returns-3
 returns-3 c =
     let x = c .before .before .args in
-    refuses (operationOf (x .minus) .ofFloats (floatOf (x .a)) (floatOf (x .b))) (operates (x .minus) .left (floatOf (x .a)) (floatOf (x .b)) (answered (c .before .is-finite .ensures) (c .if1 .left)))
+    let a = floatOf (x .a) in
+    let b = floatOf (x .b) in
+    refuses (operationOf (x .minus) .ofFloats a b) (operates (x .minus) .left a b (answered (c .before .is-finite .ensures) (c .if1 .left)))
 
 pub combined-spec : {M : Type 1} → statement M
 combined-spec =
