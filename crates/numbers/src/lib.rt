@@ -1,32 +1,23 @@
 // The processes on data terms, J110 to J125, line by line the blocks of paper/specs/Process, and the decision over their numbers. Each is one
-// function for both sorts; the sorts part in `combined`, `negated` and `holds` alone.
+// function for both sorts; where these part is in `terms`.
 ghost use Prim.Native.Nat.{_≤_};
-ghost use mathlib.Core.Path.{_≡_};
-ghost use lib.Dec.{T};
-ghost use lib.Ieee.{Float, binary32, fits};
-ghost use Rattle.paper.specs.Term.{Term, integer, floating, bitsOf, combined, holds, withZero, negated};
+ghost use Rattle.paper.specs.Term.{Term};
 ghost use Rattle.paper.specs.Process.{pairAt, putTerm, combines, compares, compares0, J120, changes, J124, perform, then as andThen, goesOn};
-ghost use Rattle.cells.specs.Layout.{valueOf, termOf};
-ghost use Rattle.floats.specs.Kept.{keptOf, operationOf, relationOf};
+ghost use Rattle.floats.specs.Kept.{operationOf, relationOf};
 ghost use Rattle.undo.specs.Log.{Room};
 ghost use Rattle.undo.specs.Did.{Always, Top, Suits, Reads, Did};
-ghost use Rattle.numbers.specs.Family.{takesOf, changeOf, wideOf, pairIn, Gives};
-use floats::Kept;
+ghost use Rattle.numbers.specs.Family.{takesOf, changeOf, pairIn, Gives};
+
+mod terms;
+
 use floats::Relation;
 use paper::limits;
 
-// 2^31 and 2^32, and the integer 0 as an operation gives it.
-const HALF: u64 = 0x80000000;
-
-const WHOLE: u64 = 0x100000000;
-
-const WIDE_ZERO: u64 = 0x180000000;
-
 // Two terms of one sort, each in 32 bits: integers as their value + 2^31.
-struct Pair {
-    floating: bool,
-    a: u32,
-    b: u32,
+pub struct Pair {
+    pub floating: bool,
+    pub a: u32,
+    pub b: u32,
 }
 
 struct GotPair {
@@ -35,7 +26,7 @@ struct GotPair {
 }
 
 // What an operation gives: the number of a term, or none that fits.
-enum Given {
+pub enum Given {
     Term(u64),
     Nothing,
 }
@@ -85,112 +76,6 @@ fn pair_at(cells: &[u64], go: u32, c: u16, d: u16) -> GotPair
     }
 }
 
-// The sum, or the difference where `minus` holds. It may not fit 32 bits: it stands 2^32 higher (`wideOf`), so that it is never below 0.
-fn reckoned(minus: bool, u: u32, v: u32) -> u64
-    ensures { λ r. ⌜ wideOf r ≡ operationOf minus .ofIntegers (valueOf u) (valueOf v) ⌝ }
-{
-    if minus {
-        return WIDE_ZERO + (u as u64) - (v as u64);
-    }
-    // (u - 2^31) + (v - 2^31) + 3 * 2^31
-    HALF + (u as u64) + (v as u64)
-}
-
-// An integer fits where it is 2^32 and an integer's number.
-fn of_wide(x: u64) -> Given
-    ensures { λ r. ⌜ Gives r (integer (wideOf x)) ⌝ }
-{
-    if x / WHOLE == 1 {
-        return Given::Term(x % WHOLE);
-    }
-    Given::Nothing
-}
-
-fn of_kept(k: Kept) -> Given
-    ensures { λ r. ⌜ ((x : Float) → T (fits binary32 x) → k ≡ keptOf x → Gives r (floating (bitsOf x))) ⌝ }
-{
-    match k {
-        Kept::Bits(b) => Given::Term(cells::FLOATING + (b as u64)),
-        Kept::NotFinite => Given::Nothing,
-    }
-}
-
-// J110, and J111 where `minus` holds, on two terms.
-fn combined(minus: bool, p: Pair) -> Given
-    ensures { λ r. ⌜ Gives r (combined (operationOf minus) (pairIn p)) ⌝ }
-{
-    if p.floating {
-        return of_kept(floats::combined(minus, p.a, p.b));
-    }
-    of_wide(reckoned(minus, p.a, p.b))
-}
-
-// J123.
-fn negated(x: u64) -> Given
-    ensures { λ r. ⌜ Gives r (negated (termOf x)) ⌝ }
-{
-    let v = (x % cells::FLOATING) as u32;
-    if cells::is_integer(x) {
-        return of_wide(reckoned(true, cells::ZERO, v));
-    }
-    of_kept(floats::negated(v))
-}
-
-// J125, or J123 where `negate` holds.
-fn changed(negate: bool, x: u64) -> Given
-    ensures { λ r. ⌜ Gives r (changeOf negate (termOf x)) ⌝ }
-{
-    if negate {
-        return negated(x);
-    }
-    of_wide(reckoned(false, cells::integer_in(x), cells::ZERO + 1))
-}
-
-// J123 takes either sort, "J125 stays with integers".
-fn takes(negate: bool, x: u64) -> bool
-    ensures { λ r. ⌜ r ≡ takesOf negate (termOf x) ⌝ }
-{
-    negate | cells::is_integer(x)
-}
-
-fn stands(k: Relation, u: u32, v: u32) -> bool
-    ensures { λ r. ⌜ r ≡ relationOf k .ofIntegers (valueOf u) (valueOf v) ⌝ }
-{
-    match k {
-        Relation::Equal => u == v,
-        Relation::Above => v < u,
-        Relation::Below => u < v,
-    }
-}
-
-fn holds(k: Relation, p: Pair) -> bool
-    ensures { λ r. ⌜ r ≡ holds (relationOf k) (pairIn p) ⌝ }
-{
-    if p.floating {
-        return floats::holds(k, p.a, p.b);
-    }
-    stands(k, p.a, p.b)
-}
-
-// A term and the zero of its sort.
-fn with_zero(x: u64) -> Pair
-    ensures { λ r. ⌜ pairIn r ≡ withZero (termOf x) ⌝ }
-{
-    let a = (x % cells::FLOATING) as u32;
-    if cells::is_integer(x) {
-        return Pair {
-            floating: false,
-            a: a,
-            b: cells::ZERO,
-        };
-    }
-    Pair {
-        floating: true,
-        a: a,
-        b: 0,
-    }
-}
-
 // A term that an operation gives: 29 where none fits.
 fn put_term(cells: &mut [u64], log: &mut [u64], go: u32, c: u16, given: Given) -> u32
     requires { ⌜ Room (now log) 1 ⌝ }
@@ -220,7 +105,7 @@ fn combines(cells: &mut [u64], log: &mut [u64], go: u32, top: u16, minus: bool) 
     let c1 = (g1.x / cells::SYMB % 65536) as u16;
     let t0 = acts::term_to(cells, g2.go, c0);
     let p = pair_at(cells, t0.go, c1, (g2.x / cells::SYMB % 65536) as u16);
-    let go = put_term(cells, log, p.go, c0, combined(minus, p.pair));
+    let go = put_term(cells, log, p.go, c0, terms::combined(minus, p.pair));
     acts::gives3(cells, log, go, top, cells::symbol(w0))
 }
 
@@ -233,7 +118,7 @@ fn compares(cells: &mut [u64], log: &mut [u64], go: u32, top: u16, k: Relation) 
     let g = acts::below(cells, go, limits::H0, w0);
     let c0 = (w0 / cells::SYMB % 65536) as u16;
     let p = pair_at(cells, g.go, c0, (g.x / cells::SYMB % 65536) as u16);
-    acts::tests2(cells, log, p.go, top, holds(k, p.pair))
+    acts::tests2(cells, log, p.go, top, terms::holds(k, p.pair))
 }
 
 // J117, J118, J119.
@@ -243,7 +128,13 @@ fn compares0(cells: &mut [u64], log: &mut [u64], go: u32, top: u16, k: Relation)
 {
     let w0 = acts::own(cells, limits::H0);
     let t = acts::term_at(cells, go, (w0 / cells::SYMB % 65536) as u16);
-    acts::tests1(cells, log, t.go, top, holds(k, with_zero(t.x)))
+    acts::tests1(
+        cells,
+        log,
+        t.go,
+        top,
+        terms::holds(k, terms::with_zero(t.x)),
+    )
 }
 
 // "copy integer, named as J74 names", or a floating term
@@ -265,8 +156,8 @@ fn changes(cells: &mut [u64], log: &mut [u64], go: u32, top: u16, negate: bool) 
     let w0 = acts::own(cells, limits::H0);
     let c = (w0 / cells::SYMB % 65536) as u16;
     let t = acts::term_to(cells, go, c);
-    let go = undo::refuse_if(t.go, !takes(negate, t.x), 23, c);
-    let go = put_term(cells, log, go, c, changed(negate, t.x));
+    let go = undo::refuse_if(t.go, !terms::takes(negate, t.x), 23, c);
+    let go = put_term(cells, log, go, c, terms::changed(negate, t.x));
     acts::gives1(cells, log, go, top, cells::symbol(w0))
 }
 

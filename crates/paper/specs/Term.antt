@@ -1,5 +1,5 @@
 -- Data terms. Document 01: "integer (signed 32 bits)"; CR 9: "Add a floating term of 32 bits". Here is what a sort can do, as values that
--- the processes are given; a process itself is one block for both (Process, and reading 9 for each).
+-- the processes are given; a process itself is one block for both (Process; readings 9.1 to 9.8).
 use mathlib.Core.Bool.{Bool, true, false, _&&_, not}
 use Prim.Native.Nat.{ℕ, _+_}
 use lib.Dec.{ltb}

@@ -1,7 +1,7 @@
 use Rattle.numbers.proofs.Laws.{value-add, value-sub}
 use Rattle.paper.proofs.Kit.{arith, needs}
-use Rattle.numbers.proofs.reckoned.Statement.{statement}
-use Rattle.numbers.proofs.reckoned.Tie as tie
+use Rattle.numbers.proofs.terms.reckoned.Statement.{statement}
+use Rattle.numbers.proofs.terms.reckoned.Tie as tie
 
 returns : tie.Need-returns
 returns c = rw (c .if1 .taken) (value-sub (c .before .args .u) (c .before .args .v) (omega arith))

@@ -1,7 +1,7 @@
 use Rattle.numbers.proofs.Laws.{order, equal}
 use Rattle.paper.proofs.Kit.{sym, needs}
-use Rattle.numbers.proofs.stands.Statement.{statement}
-use Rattle.numbers.proofs.stands.Tie as tie
+use Rattle.numbers.proofs.terms.stands.Statement.{statement}
+use Rattle.numbers.proofs.terms.stands.Tie as tie
 
 returns : tie.Need-returns
 returns c = rw (c .enum-told .given .1) (sym (equal (c .before .before .args .u) (c .before .before .args .v)))

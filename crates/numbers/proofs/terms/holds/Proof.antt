@@ -1,6 +1,6 @@
 use Rattle.paper.proofs.Kit.{needs}
-use Rattle.numbers.proofs.holds.Statement.{statement}
-use Rattle.numbers.proofs.holds.Tie as tie
+use Rattle.numbers.proofs.terms.holds.Statement.{statement}
+use Rattle.numbers.proofs.terms.holds.Tie as tie
 
 returns : tie.Need-returns
 returns c = rw (c .before .if1 .taken) (c .holds .ensures)

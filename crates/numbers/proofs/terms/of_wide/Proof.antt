@@ -1,6 +1,6 @@
 use Rattle.numbers.proofs.Fitting.{wide-fits, wide-none}
-use Rattle.numbers.proofs.of_wide.Statement.{statement}
-use Rattle.numbers.proofs.of_wide.Tie as tie
+use Rattle.numbers.proofs.terms.of_wide.Statement.{statement}
+use Rattle.numbers.proofs.terms.of_wide.Tie as tie
 
 returns : tie.Need-returns
 returns c = wide-fits (c .before .args .x) (c .if1 .taken)

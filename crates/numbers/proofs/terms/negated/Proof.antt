@@ -4,8 +4,8 @@ use Rattle.paper.specs.Term.{integer, floatOf, negated}
 use Rattle.cells.specs.Layout.{bitsOf}
 use Rattle.cells.proofs.Laws.{integer-is, floating-is}
 use Rattle.numbers.proofs.Fitting.{negative-fits, gives-as}
-use Rattle.numbers.proofs.negated.Statement.{statement}
-use Rattle.numbers.proofs.negated.Tie as tie
+use Rattle.numbers.proofs.terms.negated.Statement.{statement}
+use Rattle.numbers.proofs.terms.negated.Tie as tie
 
 returns : tie.Need-returns
 returns c =

@@ -1,7 +1,7 @@
 use Rattle.paper.proofs.Kit.{sym, _∙_, needs}
 use Rattle.numbers.proofs.Fitting.{kept-fits, kept-none}
-use Rattle.numbers.proofs.of_kept.Statement.{statement}
-use Rattle.numbers.proofs.of_kept.Tie as tie
+use Rattle.numbers.proofs.terms.of_kept.Statement.{statement}
+use Rattle.numbers.proofs.terms.of_kept.Tie as tie
 
 returns : tie.Need-returns
 returns c = λ x f e. kept-fits x f _ (sym (c .before .k .given .1) ∙ e)

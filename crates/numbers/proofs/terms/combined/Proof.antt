@@ -2,8 +2,8 @@ use Rattle.paper.proofs.Kit.{ap, needs}
 use Rattle.paper.specs.Term.{integer, floatOf}
 use Rattle.floats.specs.Kept.{operationOf}
 use Rattle.numbers.proofs.Fitting.{operation-fits, gives-as}
-use Rattle.numbers.proofs.combined.Statement.{statement}
-use Rattle.numbers.proofs.combined.Tie as tie
+use Rattle.numbers.proofs.terms.combined.Statement.{statement}
+use Rattle.numbers.proofs.terms.combined.Tie as tie
 
 returns : tie.Need-returns
 returns c =

@@ -1,8 +1,8 @@
 use Rattle.paper.proofs.Kit.{ap, sym, _∙_, pos, _+ℤ_, needs}
 use Rattle.paper.specs.Term.{integer}
 use Rattle.numbers.proofs.Fitting.{gives-as}
-use Rattle.numbers.proofs.changed.Statement.{statement}
-use Rattle.numbers.proofs.changed.Tie as tie
+use Rattle.numbers.proofs.terms.changed.Statement.{statement}
+use Rattle.numbers.proofs.terms.changed.Tie as tie
 
 returns : tie.Need-returns
 returns c = rw (c .before .if1 .taken) (c .negated .ensures)

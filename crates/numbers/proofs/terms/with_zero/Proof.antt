@@ -1,8 +1,8 @@
 use Rattle.paper.proofs.Kit.{ap, sym, _∙_, needs}
 use Rattle.paper.specs.Term.{withZero}
 use Rattle.cells.proofs.Laws.{integer-is, floating-is}
-use Rattle.numbers.proofs.with_zero.Statement.{statement}
-use Rattle.numbers.proofs.with_zero.Tie as tie
+use Rattle.numbers.proofs.terms.with_zero.Statement.{statement}
+use Rattle.numbers.proofs.terms.with_zero.Tie as tie
 
 returns : tie.Need-returns
 returns c = sym (ap withZero (integer-is (c .before .before .args .x) (sym (c .before .is-integer .ensures) ∙ c .if1 .taken)))
