@@ -35,8 +35,18 @@ packs-next t a b e f p = rw (e, f) p
 pub last-bits : wrapped (valueOf (2 ^ 32 - 1) +ℤ pos 1) ≡ valueOf (2 ^ 31)
 last-bits = refl
 
--- the number of a count from 0 on, but the last, and the one after it
-pub next-number : (x : ℕ) → 2 * 2 ^ 48 + 2 ^ 31 ≤ x → x < 2 * 2 ^ 48 + (2 ^ 32 - 1) → Packs (x + 1) (term (oneMore (termIn (unpackOf x))))
+-- the integer of a term, by its sort and bits in one
+pub integer-of : (r : ℕ) → r % 2 ^ 33 < 2 ^ 32 → integerIn (termOf r) ≡ valueOf (r % 2 ^ 33)
+integer-of r l =
+    let s : sortOf r ≡ 0 = omega arith in
+    let b : bitsOf r ≡ r % 2 ^ 33 = omega arith in
+    rw (s) (ap valueOf b)
+
+pub integer-none : (r : ℕ) → 2 ^ 32 ≤ r % 2 ^ 33 → integerIn (termOf r) ≡ valueOf (2 ^ 31)
+integer-none r l = let s : sortOf r ≡ 1 = omega arith in rw (s)
+
+-- the number of a count but the last, and the one after it
+pub next-number : (x : ℕ) → 2 * 2 ^ 48 ≤ x → x < 2 * 2 ^ 48 + (2 ^ 32 - 1) → Packs (x + 1) (term (oneMore (termIn (unpackOf x))))
 next-number x h l =
     let a = bitsOf x in
     let s : sortOf x ≡ 0 = omega arith in
