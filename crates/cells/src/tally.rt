@@ -14,7 +14,7 @@ const LARGEST: u64 = 0xFFFFFFFF;
 
 const LAST: u64 = TERM + LARGEST;
 
-// An integer but the last, as nearly all counts are, is asked for first: its number is one more too.
+// Any integer but the last, as nearly all counts are, is asked for first: its number is one more too.
 pub fn one_more(x: u64) -> u64
     ensures { λ r. ⌜ Packs r (term (oneMore (termIn (unpackOf x)))) ⌝ }
 {

@@ -1,5 +1,5 @@
 -- What the proofs of the functions cite: bits that may be taken for a number, and what an operation leaves.
-use Rattle.paper.proofs.Kit.{_≡_, refl, sym, ap, subst, _∙_, Bool, true, false, not, ℕ}
+use Rattle.paper.proofs.Kit.{_≡_, sym, ap, subst, _∙_, Bool, true, false, not, ℕ}
 use lib.Dec.{T}
 use lib.Ieee.{Float, binary32, neg, fits, isNan, nanBits}
 use lib.Ieee.Bits.{nanBits-is, ofBits-toBits}

@@ -6,7 +6,7 @@ use lib.Ieee.{Float, binary32, neg, fits}
 use lib.Ieee.Bits.{ofBits-toBits, toBits-lt, ofBits-fits}
 use lib.Ieee.Fits.{add-fits, sub-fits, neg-fits}
 use lib.Ieee.Scale.{finite}
-use Rattle.paper.specs.Term.{Term, integer, floating, floatOf, bitsOf as bitsOfFloat, isInteger, termFits, Pair, integers, floats, alike, pairOf}
+use Rattle.paper.specs.Term.{Term, integer, floating, floatOf, bitsOf as bitsOfFloat, isInteger, termFits, Pair, alike, pairOf}
 use Rattle.cells.specs.Layout.{valueOf, sortOf, bitsOf, termOf}
 use Rattle.cells.specs.Pack.{Packs}
 use Rattle.paper.specs.Cell.{term}

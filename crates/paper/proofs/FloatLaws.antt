@@ -1,17 +1,13 @@
 -- What `lib.Ieee` does not say of binary32 itself: which bits are a finite number's; that finite numbers give no NaN; that what is not finite stays so;
--- what the sign bit is; and so what the definitions of Term mean by their bits.
-use Rattle.paper.proofs.Kit.{_≡_, refl, sym, ap, subst, _∙_, Bool, true, false, not, cond, _&&_, ℕ, zero, suc, _+_, _-_, _*_, _/_, _%_, _^_, _<_, _≤_}
-use Rattle.paper.proofs.Kit.{arith, decLt, ltb, leb, eqb, lt-ltb, le-ltb, eq-eqb, ne-eqb, lt-leb, le-leb, ltb-true, clash}
+-- that no relation holds of a NaN.
+use Rattle.paper.proofs.Kit.{_≡_, refl, sym, ap, _∙_, Bool, true, false, not, cond, _&&_, ℕ, zero, suc, _+_, _-_, _*_, _/_, _%_, _^_, _<_, arith, decLt}
+use Rattle.paper.proofs.Kit.{ltb, leb, eqb, lt-ltb, le-ltb, eq-eqb, ne-eqb, clash}
 use mathlib.Core.Bool.{Bool·beq}
-use lib.Dec.{T}
-use lib.Ieee.{Float, nan, inf, fin, Format, binary32, prec, low, up, down, odd, units, round, sum, add, sub, neg, eq, lt, isNan, fits, ofFields, ofBits, toBits, nanBits}
-use lib.Ieee.Bits.{nanBits-is, ofBits-toBits, toBits-ofBits, toBits-lt, ofBits-fits}
-use lib.Ieee.Fits.{round-is, add-fits, sub-fits, neg-fits}
+use lib.Ieee.{Float, nan, inf, fin, Format, binary32, prec, low, up, down, odd, units, round, sum, add, sub, neg, eq, lt, isNan, ofFields, ofBits}
+use lib.Ieee.Fits.{round-is}
 use lib.Ieee.Scale.{finite, overflow}
 use Rattle.paper.specs.Limits.{halfRange}
-use Rattle.paper.specs.Term.{floatOf, bitsOf, isFinite, termFits, floating, negated, holds, floats, Relation, isEqual, isAbove, isBelow, plus, combined, withZero, termOpen}
-use Rattle.paper.proofs.SoundStore.{and-true}
-use Rattle.paper.proofs.SoundTest.{and-both}
+use Rattle.paper.specs.Term.{isFinite, isEqual, isAbove, isBelow}
 
 -- the bits of infinity, and of the exponent's unit
 abbrev infinity : ℕ

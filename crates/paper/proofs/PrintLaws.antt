@@ -1,5 +1,5 @@
 -- What J152 and J153 print: a line of at most so many bytes. They are refused by 30 where it does not fit, and never by 28.
-use Rattle.paper.proofs.Kit.{clash, decLt, lt-ltb, le-ltb, _≡_, refl, sym, ap, subst, _∙_, List, [], _∷_, _++_, append-nil, ℕ, _+_, _<_, _≤_, ℤ, arith}
+use Rattle.paper.proofs.Kit.{clash, decLt, lt-ltb, le-ltb, _≡_, refl, sym, ap, subst, _∙_, List, [], _∷_, _++_, append-nil, ℕ, _+_, _<_, _≤_, arith}
 use Rattle.paper.proofs.Kit.{length, length-append}
 use Rattle.paper.specs.Limits.{longestSymbolLine, longestLine}
 use Rattle.paper.specs.Step.{Res, done, refused, _>>=_, _>>_, refuseIf, asks, becomes}

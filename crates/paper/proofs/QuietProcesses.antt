@@ -1,5 +1,5 @@
 -- No process prints but J152 and J153: the others leave the lines and the room, and are refused neither by 28 nor by 30.
-use Rattle.paper.proofs.Kit.{Bool, true, false, ℕ, zero, suc, ℤ}
+use Rattle.paper.proofs.Kit.{Bool, true, false, ℕ, zero, suc}
 use Rattle.paper.specs.Cell.{Symbol, Term}
 use Rattle.paper.specs.Term.{Operation, Relation}
 use Rattle.paper.specs.Act.{Act}

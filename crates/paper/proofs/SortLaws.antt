@@ -1,6 +1,6 @@
 -- What CR 9 and its readings say of the two sorts of term, as laws of the definitions.
-use Rattle.paper.proofs.Kit.{_≡_, refl, sym, ap, subst, _∙_, List, [], _∷_, map, Bool, true, false, not, cond, ℕ, zero, suc, _+_, _-_, _/_, _%_, _<_, _≤_, arith, ltb, leb, eqb}
-use Rattle.paper.proofs.Kit.{lt-ltb, le-ltb, lt-leb, le-leb, ltb-true, ltb-false, clash}
+use Rattle.paper.proofs.Kit.{_≡_, refl, sym, ap, subst, _∙_, [], _∷_, map, Bool, true, false, not, cond, ℕ, zero, suc, _+_, _-_, _/_, _%_, _<_, arith, ltb, leb, eqb}
+use Rattle.paper.proofs.Kit.{lt-ltb, lt-leb, le-leb, ltb-true, ltb-false, clash}
 use lib.Dec.{T}
 use lib.Ieee.{Float, binary32, odd, neg, sub, inf, nan, ofFields, ofBits}
 use lib.Ieee.Bits.{toBits-ofBits}

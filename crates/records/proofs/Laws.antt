@@ -1,7 +1,7 @@
 -- Laws of symbols and records: a symbol by its class, an integer's value, a record by its kind.
-use Rattle.paper.proofs.Kit.{_||_, ℕ, zero, suc, _+_, _-_, _*_, _^_, _<_, _≤_, Bool, true, false, cond, _&&_, and-false, List, [], _∷_, _⊎_, ⊎-elim, Option, none}
+use Rattle.paper.proofs.Kit.{_||_, ℕ, zero, suc, _+_, _-_, _^_, _<_, _≤_, Bool, true, false, cond, _&&_, and-false, List, [], _∷_, _⊎_, ⊎-elim, Option, none}
 use Rattle.paper.proofs.Kit.{some, _≡_, refl, ap, _∙_, sym, subst, arith, ℕ-discrete, lt-ltb, le-ltb, le-leb, lt-leb, ne-eqb, ltb-false, eqb-false, eqb, ltb}
-use Rattle.paper.proofs.Kit.{leb, getD, length, ℤ, pos, negsuc}
+use Rattle.paper.proofs.Kit.{leb, length, ℤ, pos, negsuc}
 use Rattle.paper.specs.Step.{choose}
 use Rattle.paper.specs.declared.Field.{Field}
 use Rattle.paper.specs.declared.Field.the-variants.{Regional, Local, Zero, Blank}

@@ -1,4 +1,4 @@
-use Rattle.paper.proofs.Kit.{arith, refl, needs}
+use Rattle.paper.proofs.Kit.{refl, needs}
 use Rattle.cells.proofs.Laws.{packs-term}
 use Rattle.cells.proofs.of_term.Statement.{statement}
 use Rattle.cells.proofs.of_term.Tie as tie

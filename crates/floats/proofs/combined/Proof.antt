@@ -1,5 +1,5 @@
 -- Where both terms are finite the operation gives no NaN, so its bits may be asked for; where one is not, neither is what it gives.
-use Rattle.paper.proofs.Kit.{sym, ap, _∙_, Bool, not, subst, needs}
+use Rattle.paper.proofs.Kit.{sym, ap, _∙_, not, subst, needs}
 use lib.Dec.{T}
 use lib.Ieee.{Float, isNan}
 use Rattle.paper.specs.Term.{floatOf}

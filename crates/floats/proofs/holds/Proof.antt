@@ -1,4 +1,4 @@
-use Rattle.paper.proofs.Kit.{_≡_, sym, ap, _∙_, ℕ, needs}
+use Rattle.paper.proofs.Kit.{_≡_, sym, ap, ℕ, needs}
 use Rattle.paper.specs.Term.{floatOf}
 use Rattle.floats.specs.declared.Relation.{Relation}
 use Rattle.floats.specs.Kept.{relationOf}

@@ -1,5 +1,4 @@
-use Rattle.paper.proofs.Kit.{_∙_, subst, sym, Bool, not, needs}
-use lib.Dec.{T}
+use Rattle.paper.proofs.Kit.{_∙_, needs}
 use lib.Ieee.{neg}
 use Rattle.paper.specs.Term.{floatOf}
 use Rattle.paper.proofs.FloatLaws.{negated-finite}

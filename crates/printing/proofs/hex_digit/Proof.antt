@@ -1,5 +1,5 @@
 use Rattle.printing.proofs.TextLaws.{hex-low, hex-high}
-use Rattle.paper.proofs.Kit.{arith, needs}
+use Rattle.paper.proofs.Kit.{needs}
 use Rattle.printing.proofs.hex_digit.Statement.{statement}
 use Rattle.printing.proofs.hex_digit.Tie as tie
 
