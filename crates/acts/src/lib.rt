@@ -119,7 +119,7 @@ pub fn word_to(cells: &[u64], go: u32, c: u16) -> Got
     ensures { λ r. ⌜ Reads Always (wordTo c) cells go (r .go) (wordOf (r .x)) ⌝ }
 {
     if c == limits::H3 {
-        return target(cells, go, c);
+        return target(cells, go, c); // never stored into
     }
     word_at(cells, go, c)
 }
@@ -159,7 +159,7 @@ pub fn term_to(cells: &[u64], go: u32, c: u16) -> Got
     ensures { λ r. ⌜ Reads Always (termTo c) cells go (r .go) (termOf (r .x)) ⌝ }
 {
     if c == limits::H3 {
-        return target(cells, go, c);
+        return target(cells, go, c); // nor added to
     }
     term_at(cells, go, c)
 }
