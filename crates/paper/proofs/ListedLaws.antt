@@ -69,6 +69,7 @@ all_kinds =
 kind-in : {e : Entry} {es : List Entry} → EachKind es → Among e es → Kind e
 kind-in (h and hs) here = h
 kind-in (h and hs) (later a) = kind-in hs a
+kind-in {e = e} none a = elim a [ ]
 
 then-line : (k : ℕ) (s : State) (m : Act (Unit {0})) → Line k s (m s) → Line k s (then_on m s)
 unfolding then_on ret ◌>>◌
