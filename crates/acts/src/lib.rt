@@ -19,19 +19,19 @@ ghost use Rattle.acts.specs.Named.{named_to};
 use paper::{Symbol, limits};
 
 // The verdict, and a value: the number of a cell, a word or a term, a cell's place, a symbol.
-#[derive(Drop)]
+#[derive(Clone, Copy)]
 pub struct Got {
     pub go: u32,
     pub x: u64,
 }
 
-#[derive(Drop)]
+#[derive(Clone, Copy)]
 pub struct GotCell {
     pub go: u32,
     pub c: u16,
 }
 
-#[derive(Drop)]
+#[derive(Clone, Copy)]
 pub struct GotSymbol {
     pub go: u32,
     pub x: Symbol,

@@ -29,7 +29,7 @@ use records::Name;
 use regions::Regions;
 
 // Whether a word has come and whether a structure is open, and the cell whose blank LINK the next record fills.
-#[derive(Drop)]
+#[derive(Clone, Copy)]
 pub struct Notes {
     pub words: bool,
     pub opened: bool,
@@ -37,13 +37,13 @@ pub struct Notes {
 }
 
 // What a step comes to. What it writes after a refusal does not count: a refused load zeroes every cell.
-#[derive(Drop)]
+#[derive(Clone, Copy)]
 pub struct Taken {
     pub go: u8,
     pub c: u16,
 }
 
-#[derive(Drop)]
+#[derive(Clone, Copy)]
 pub struct Got {
     pub go: u8,
     pub notes: Notes,

@@ -1,4 +1,6 @@
 // A cell in one number (specs/Layout): read, tested, taken apart and made.
+#![tactic(auto)]
+
 ghost use Rattle.std.specs.Prelude.{◌≡◌};
 ghost use Rattle.paper.specs.Cell.{word, free, term, process, mk_word, with_link, with_symbol, symbol_of, is_free, is_word, is_term, is_process};
 ghost use Rattle.paper.specs.Cell.{word_in, term_in, free_link};
@@ -38,7 +40,7 @@ pub const SORTS: u64 = 0x200000000;
 // The integer 0.
 pub const ZERO: u32 = 0x80000000;
 
-#[derive(Drop)]
+#[derive(Clone, Copy)]
 pub struct Word {
     pub p: u8,
     pub q: u8,
@@ -47,7 +49,7 @@ pub struct Word {
 }
 
 // A cell taken apart. A data term is any number: only its sort and its 32 bits count, as everywhere in the code.
-#[derive(Drop)]
+#[derive(Clone, Copy)]
 pub enum Cell {
     Free(u16),
     Word(Word),

@@ -8,7 +8,7 @@ ghost use Rattle.cycle.specs.Order.{order_of, order_in, fetch};
 use paper::Symbol;
 
 // The verdict, and P, S and the LINK.
-#[derive(Drop)]
+#[derive(Clone, Copy)]
 pub struct Fetched {
     pub go: u32,
     pub p: u8,

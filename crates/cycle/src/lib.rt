@@ -25,14 +25,14 @@ mod past;
 mod tally;
 
 // What a cycle came to: where the lines end now, or why it was refused.
-#[derive(Drop)]
+#[derive(Clone, Copy)]
 pub enum Cycled {
     Progress(usize),
     Refused(Refusal),
 }
 
 // What an operation came to: the verdict, whether control has moved, and where the lines end.
-#[derive(Drop)]
+#[derive(Clone, Copy)]
 struct Operated {
     go: u32,
     away: bool,

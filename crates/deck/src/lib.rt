@@ -19,7 +19,7 @@ use records::{Name, Parsed, Read, Record};
 use regions::Regions;
 
 // A word as its record writes it.
-#[derive(Drop)]
+#[derive(Clone, Copy)]
 struct Entry {
     p: u8,
     q: u8,
@@ -28,7 +28,7 @@ struct Entry {
 }
 
 // What a record comes to: was it the start?
-#[derive(Drop)]
+#[derive(Clone, Copy)]
 struct Placed {
     go: u8,
     last: bool,
@@ -37,14 +37,14 @@ struct Placed {
 }
 
 // What the records come to, and where reading stopped.
-#[derive(Drop)]
+#[derive(Clone, Copy)]
 struct Ended {
     go: u8,
     at: usize,
     regions: Regions,
 }
 
-#[derive(Drop)]
+#[derive(Clone, Copy)]
 pub struct Loaded {
     pub answer: LoadAnswer,
     pub regions: Regions,

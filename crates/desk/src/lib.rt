@@ -12,7 +12,7 @@ use regions::Regions;
 pub type Page = [u8; limits::LONGEST_PRINTOUT];
 
 // The first n bytes, and zeros.
-#[derive(Drop)]
+#[derive(Clone, Copy)]
 pub struct Printout {
     pub n: usize,
     pub bytes: Page,

@@ -11,14 +11,14 @@ const SIGN: u32 = 0x80000000;
 const INFINITY: u32 = 0x7F800000;
 
 // What an operation leaves: the bits of a finite number, or none.
-#[derive(Drop)]
+#[derive(Clone, Copy)]
 pub enum Kept {
     Bits(u32),
     NotFinite,
 }
 
 // How a term is to stand to another.
-#[derive(Drop)]
+#[derive(Clone, Copy)]
 pub enum Relation {
     Equal,
     Above,

@@ -19,7 +19,7 @@ const LOG: usize = 2 * (2 * limits::LARGEST_N + 41) + 5;
 const UNREAD: u64 = undo::UNREAD as u64;
 
 // The answer of a run, the cycles done, and how many bytes its lines have.
-#[derive(Drop)]
+#[derive(Clone, Copy)]
 pub struct Ran {
     pub answer: RunAnswer,
     pub cycles: u32,

@@ -14,21 +14,21 @@ use floats::Relation;
 use paper::limits;
 
 // Two terms of one sort, each in 32 bits: integers as their value + 2^31.
-#[derive(Drop)]
+#[derive(Clone, Copy)]
 pub struct Pair {
     pub floating: bool,
     pub a: u32,
     pub b: u32,
 }
 
-#[derive(Drop)]
+#[derive(Clone, Copy)]
 struct GotPair {
     go: u32,
     pair: Pair,
 }
 
 // What an operation gives: the number of a term, or none that fits.
-#[derive(Drop)]
+#[derive(Clone, Copy)]
 pub enum Given {
     Term(u64),
     Nothing,

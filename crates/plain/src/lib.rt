@@ -35,7 +35,7 @@ fn settle(cells: &mut [u64], log: &[u64], go: u32) -> RunAnswer
 }
 
 // The three actions.
-#[derive(Drop)]
+#[derive(Clone, Copy)]
 enum Action {
     Preserve,
     Copy,
@@ -99,7 +99,7 @@ pub fn erase(cells: &mut [u64], regions: Regions) -> RunAnswer
 }
 
 // The cells of a walk: the first n, in walk order, and zeros.
-#[derive(Drop)]
+#[derive(Clone, Copy)]
 pub struct Met {
     pub answer: RunAnswer,
     pub n: usize,

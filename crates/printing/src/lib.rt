@@ -19,7 +19,7 @@ use regions::{Named, Table};
 type Line = [u8; limits::LONGEST_LINE];
 
 // The verdict, and where the output ends.
-#[derive(Drop)]
+#[derive(Clone, Copy)]
 pub struct Printed {
     pub go: u32,
     pub end: usize,

@@ -13,7 +13,7 @@ use paper::{Field, limits};
 const MANY_LOCALS: u16 = limits::MANY_LOCALS as u16;
 
 // The NAME of a record.
-#[derive(Drop)]
+#[derive(Clone, Copy)]
 pub enum Name {
     Regional(u8, u16),
     Local(u16),
@@ -21,7 +21,7 @@ pub enum Name {
 }
 
 // A record; a data term is its number, as in a cell.
-#[derive(Drop)]
+#[derive(Clone, Copy)]
 pub enum Record {
     Region(u8, u16),
     Routine(Name, u8, u8, Field, Field),
@@ -31,28 +31,28 @@ pub enum Record {
 }
 
 // A record, or nothing where a field breaks the rules (4).
-#[derive(Drop)]
+#[derive(Clone, Copy)]
 pub enum Parsed {
     Is(Record),
     Nothing,
 }
 
 // A symbol of a record; nothing where its bytes break the rules (4).
-#[derive(Drop)]
+#[derive(Clone, Copy)]
 pub enum Read {
     Symbol(Field),
     Nothing,
 }
 
 // A NAME; nothing where the symbol may not be one (4).
-#[derive(Drop)]
+#[derive(Clone, Copy)]
 enum NameRead {
     As(Name),
     Nothing,
 }
 
 // A data term; nothing where it may not be one (4).
-#[derive(Drop)]
+#[derive(Clone, Copy)]
 enum TermRead {
     As(u64),
     Nothing,

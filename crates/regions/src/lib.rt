@@ -26,7 +26,7 @@ pub type Table = [u32; PLACES];
 const PLACES: usize = 1 + limits::MANY_REGIONS;
 
 // Letter and count of the first n deck regions, in record order. There are 23 letters besides H, W and J.
-#[derive(Drop)]
+#[derive(Clone, Copy)]
 pub struct Regions {
     pub letters: [u8; limits::MANY_REGIONS],
     pub counts: [u16; limits::MANY_REGIONS],
@@ -204,7 +204,7 @@ fn row(letter: u8, count: u16) -> u32
 }
 
 // Letter and number of a reserved cell.
-#[derive(Drop)]
+#[derive(Clone, Copy)]
 pub enum Named {
     As(u8, u16),
     Nothing,

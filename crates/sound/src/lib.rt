@@ -20,7 +20,7 @@ const FIRST_DECK: usize = limits::FIRST_DECK as usize;
 const LARGEST_P: u64 = limits::LARGEST_P as u64;
 
 // What one pass over the cells finds.
-#[derive(Drop)]
+#[derive(Clone, Copy)]
 enum Pass {
     Unsound,
     Free(usize),
@@ -141,7 +141,7 @@ pub fn size_fits(n: usize) -> bool
 }
 
 // Where the regions of a sound store end, or the answer.
-#[derive(Drop)]
+#[derive(Clone, Copy)]
 pub enum Asked {
     Top(u16),
     Not(RunAnswer),

@@ -16,7 +16,7 @@ use cells::Cell;
 use paper::limits;
 
 // How many new cells were found, and where the free list goes on from them.
-#[derive(Drop)]
+#[derive(Clone, Copy)]
 struct Found {
     n: usize,
     next: u16,

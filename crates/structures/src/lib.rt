@@ -23,7 +23,7 @@ pub type Order = [u16; limits::LARGEST_N];
 pub type Marks = [u16; MANY_NUMBERS];
 
 // The verdict, and how many cells of the order were met.
-#[derive(Drop)]
+#[derive(Clone, Copy)]
 pub struct Walked {
     pub go: u32,
     pub n: usize,

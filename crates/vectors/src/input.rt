@@ -103,7 +103,7 @@ fn table(b: &[u8], n: u8) -> Regions
 }
 
 // The regions that come next, and whether they were there.
-#[derive(Drop)]
+#[derive(Clone, Copy)]
 pub struct Listed {
     pub whole: bool,
     pub regions: Regions,
