@@ -1,6 +1,8 @@
 // The small actions of a cycle, line by line the blocks of paper/specs/Act. Each takes the verdict so far, `go`, and does nothing where that
 // is a refusal. The smallest return at their first refusal; what is made of them carries `go`. Reserved cells are those below `top`, where
 // the deck regions end.
+#![tactic(auto)]
+
 ghost use Rattle.std.specs.Prelude.{◌+◌, ◌≤◌, ◌≡◌, ◌&&◌, ◌||◌, eqb};
 ghost use Rattle.paper.specs.Limits.{first_deck};
 ghost use Rattle.paper.specs.Cell.{is_hw, H as cellH};

@@ -1,4 +1,6 @@
 // What the loader keeps, and its small steps: document 01, "The deck". Its verdict is one number, `go`: 0, or the answer number of a fault.
+#![tactic(auto)]
+
 ghost use Rattle.std.specs.Prelude.{◌≡◌, cond, ℕ, ◌<◌, eqb, set, List};
 ghost use Rattle.std.proofs.Math.Option.{some};
 ghost use Rattle.paper.specs.Cell.{Cell, Region};

@@ -1,5 +1,7 @@
 // One cycle of document 01: step 2; step 3 with its fetch, the decision over P, J1 and the family of a process; then the LINK; and the
 // end of a cycle, which undoes a refused one. Line by line the blocks of paper/specs/Cycle.
+#![tactic(auto)]
+
 ghost use Rattle.std.specs.Prelude.{◌≡◌, List, ◌≢◌, ◌+◌, ◌-◌, ◌*◌, ◌^◌, ◌<◌, ◌≤◌, length, get_or};
 ghost use Rattle.paper.specs.Limits.{first_deck};
 ghost use Rattle.paper.specs.Cell.{J, Region};

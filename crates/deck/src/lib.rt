@@ -1,4 +1,6 @@
 // The loader: document 01, "The deck".
+#![tactic(auto)]
+
 ghost use Rattle.std.specs.Prelude.{◌≡◌, true, cond, length};
 ghost use Rattle.paper.specs.Region.{is_letter};
 ghost use Rattle.paper.specs.Record.{byte_at};

@@ -1,4 +1,6 @@
 // What the program does, from the bytes of its input to the bytes that it prints: document 01, "What is built".
+#![tactic(auto)]
+
 ghost use Rattle.std.specs.Prelude.{◌≡◌, ◌++◌, ◌-◌, ◌≤◌, min, length, take, drop, replicate};
 ghost use Rattle.paper.specs.Limits.{largest_budget, program_deck, program_room, longest_printout};
 ghost use Rattle.paper.specs.Answer.{load_number};

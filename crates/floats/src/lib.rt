@@ -1,5 +1,7 @@
 // Floating terms, by their 32 bits: the one operation of the format for a sum or a difference, the sign turned, the tests. Bits are taken for a
 // number only where they are a number's, so each function answers for all bits.
+#![tactic(auto)]
+
 ghost use Rattle.std.specs.Prelude.{◌≡◌, not, T};
 ghost use Rattle.std.specs.Float.Ieee.{is_nan, neg};
 ghost use Rattle.paper.specs.Term.{float_of, is_finite, plus, minus};

@@ -1,5 +1,7 @@
 // The processes on lists: J60 next cell, J63 and J64 insert, J68 delete, J90 new empty cell; and the decision over J60 to J109, where J71, J72
 // and J74, on structures, stand elsewhere. (0), (1) are the symbols down H0: the words w0, w1.
+#![tactic(auto)]
+
 ghost use Rattle.std.specs.Prelude.{◌≤◌, ◌≡◌, ◌≢◌, ◌&&◌};
 ghost use Rattle.paper.specs.Process.{is_end, at_end, drop_end, move_on, next_cell, J60, J63, J64, delete_last, delete_next, J68, J90};
 ghost use Rattle.paper.specs.Process.{perform, then as and_then, goes_on};

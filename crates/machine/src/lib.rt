@@ -1,4 +1,6 @@
 // A run: cycles until the finish, the budget or a refusal. Line by line paper/specs/Run.
+#![tactic(auto)]
+
 ghost use Rattle.std.specs.Prelude.{◌≡◌, List};
 ghost use Rattle.paper.specs.Cell.{Region};
 ghost use Rattle.cells.specs.Pack.{AllFormed};

@@ -1,5 +1,7 @@
 // The processes on data terms, J110 to J125, line by line the blocks of paper/specs/Process, and the decision over their numbers. Each is one
 // function for both sorts; where these part is in `terms`.
+#![tactic(auto)]
+
 ghost use Rattle.std.specs.Prelude.{◌≤◌};
 ghost use Rattle.paper.specs.Term.{Term};
 ghost use Rattle.paper.specs.Process.{pair_at, put_term, combines, compares, compares0, J120, changes, J124, perform, then as and_then, goes_on};

@@ -1,5 +1,7 @@
 // Demand 3: preserve, copy and erase as "plain actions outside any cycle"; and the walk of a symbol. Each asks of the store what a run
 // asks, 1 and then 20; refused, it leaves every number as it was.
+#![tactic(auto)]
+
 ghost use Rattle.std.specs.Prelude.{◌≡◌, ◌+◌, ◌*◌, ◌≤◌, [], length, take};
 ghost use Rattle.paper.specs.Limits.{largest_n};
 ghost use Rattle.paper.specs.Plain.{preserve_h0, walked};

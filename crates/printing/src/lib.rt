@@ -1,4 +1,6 @@
 // Printing: the text of a line, J152 and J153. A line goes to the output, line feed included, once nothing of its process can be refused.
+#![tactic(auto)]
+
 ghost use Rattle.std.specs.Prelude.{◌≡◌, [], ◌∷◌, ◌+◌, ◌^◌, ◌<◌, ◌≤◌, length, take};
 ghost use Rattle.std.proofs.Math.Seq.{paste};
 ghost use Rattle.paper.specs.Limits.{cell_digits, longest_symbol_line, longest_line};

@@ -1,4 +1,6 @@
 // The records of a deck, from its bytes: document 01, "The deck".
+#![tactic(auto)]
+
 ghost use Rattle.std.specs.Prelude.{◌≡◌, ◌+◌, ◌*◌, cond, ◌&&◌, leb};
 ghost use Rattle.std.proofs.Math.Option.{none, some};
 ghost use Rattle.paper.specs.Limits.{largest_number, largest_p};

@@ -1,5 +1,7 @@
 // The region table, both ways: from letter and number to a cell, and back; where the regions end; and whether they are sound. Document 01,
 // "The store".
+#![tactic(auto)]
+
 ghost use Rattle.std.specs.Prelude.{◌≡◌, cond, ◌+◌, ◌<◌, ◌≤◌, ltb, length, drop};
 ghost use Rattle.paper.specs.Limits.{first_deck};
 ghost use Rattle.paper.specs.Region.{region_of, end_of_regions, layout, letter_taken, new_letter, regions_sound, cell_from, cell_of, letters_from, letters_of};

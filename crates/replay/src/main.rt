@@ -1,4 +1,6 @@
 // The program: a deck from standard input, and on standard output what `desk::replay` makes of it.
+#![tactic(auto)]
+
 use paper::limits;
 
 fn main() {

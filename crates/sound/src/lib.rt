@@ -1,4 +1,6 @@
 // The test of soundness: document 01, "A store is sound if ..", for any numbers and any table; and the question that every call begins with.
+#![tactic(auto)]
+
 ghost use Rattle.std.specs.Prelude.{◌≡◌, ◌*◌, ◌^◌, ◌<◌, ◌≤◌, get_or};
 ghost use Rattle.paper.specs.Cell.{size_fits};
 ghost use Rattle.paper.specs.Sound.{word_sound, free_list, free_start};

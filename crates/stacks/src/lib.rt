@@ -1,5 +1,7 @@
 // The processes on H0, H5 and the W cells, J0 to J9 but J1 and J20 to J59, and those on tags, J130 to J138: a decision over the numbers of
 // each. J1 is the cycle's. (0), (1) are the symbols down H0: the words w0, w1.
+#![tactic(auto)]
+
 ghost use Rattle.std.specs.Prelude.{◌≤◌, ◌≢◌};
 ghost use Rattle.paper.specs.Process.{J2, J5, J6, J9, move_to, J2n, J3n, J4n, J5n, tests_tag, J131, retags};
 ghost use Rattle.paper.specs.Process.{perform, then as and_then, goes_on};

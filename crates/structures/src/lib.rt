@@ -1,5 +1,7 @@
 // "The walk of a structure": its cells in walk order, J71's chain, and the processes J71, J72 and J74, which free or copy the cells met.
 // The blocks are those of paper/specs/Walk and Process.
+#![tactic(auto)]
+
 ghost use Rattle.std.specs.Prelude.{◌+◌, ◌≤◌, length};
 ghost use Rattle.paper.specs.Process.{J71, J72, J74, perform, then as and_then, goes_on};
 ghost use Rattle.undo.specs.Did.{Top, Suits, Did};

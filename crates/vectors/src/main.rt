@@ -1,4 +1,6 @@
 // Runs cases over the public calls: each is read from standard input in the form that tools/pack-vectors writes, and answered in a line.
+#![tactic(auto)]
+
 mod answers;
 mod cases;
 mod input;

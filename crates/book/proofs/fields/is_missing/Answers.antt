@@ -1,0 +1,9 @@
+use Rattle.paper.proofs.Kit.{ap, sym, ◌∙◌, eqb, not, ◌&&◌}
+use Rattle.paper.specs.Region.{letter_j}
+use Rattle.paper.specs.Deck.{is_missing}
+use Rattle.book.proofs.fields.is_missing.Goals as goal
+
+pub returns-in-Regional : goal.returns-in-Regional
+returns-in-Regional c =
+    let f = c.f-1.given in
+    ap (λ b. eqb f.0.0 letter_j && not b) c.is_listed.ensures ∙ sym (ap is_missing f.1)

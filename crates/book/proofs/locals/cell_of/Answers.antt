@@ -1,0 +1,13 @@
+use Rattle.paper.proofs.Kit.{ap, sym}
+use Rattle.book.proofs.KeptLaws.{local-at, local_out}
+use Rattle.book.specs.Kept.{local_of}
+use Rattle.book.proofs.locals.cell_of.Goals as goal
+
+pub returns-then-i-locals : goal.returns-then-i-locals
+unfolding local_of
+returns-then-i-locals c =
+    sym (ap (λ x. x.cell) (local-at c.args.locals.now c.args.n))
+
+pub returns : goal.returns
+returns c =
+    sym (ap (λ x. x.cell) (local_out c.args.locals.now c.args.n c.if-i-locals.false))

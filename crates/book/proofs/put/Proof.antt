@@ -1,9 +1,0 @@
-use Rattle.paper.proofs.Kit.{set_out, sym, needs}
-use Rattle.book.proofs.put.Statement.{statement}
-use Rattle.book.proofs.put.Tie as tie
-
-returns-2 : tie.Need-returns-2
-returns-2 c = sym (set_out _ _ _ c.if1.false)
-
-pub put_spec : {M : Type 1} → statement M
-put_spec = tie.close (tie.spec (λ c. search needs) (λ c. search needs) (λ c. search needs) (λ c. search needs) returns-2)

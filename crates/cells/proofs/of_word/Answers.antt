@@ -1,0 +1,6 @@
+use Rattle.paper.proofs.Kit.{arith}
+use Rattle.cells.proofs.Laws.{packs-word, fields-sum}
+use Rattle.cells.proofs.of_word.Goals as goal
+
+pub returns : goal.returns
+returns c = packs-word _ _ _ _ (omega arith) (omega arith) (omega arith) (omega arith) (fields-sum _)

@@ -1,0 +1,8 @@
+use Rattle.paper.proofs.Kit.{arith}
+use Rattle.cells.proofs.Laws.{packs-word, fields-sum}
+use Rattle.cells.proofs.with_link.Goals as goal
+
+pub returns : goal.returns
+returns c =
+    packs-word _ _ _ _ (omega arith) (omega arith) (omega arith) (omega arith)
+    (omega (arith, fields-sum c.args.x))

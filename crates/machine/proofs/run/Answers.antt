@@ -1,0 +1,55 @@
+use Rattle.paper.proofs.Kit.{ℕ, ◌+◌, ◌*◌, refl, ap, subst, ◌∙◌, arith, length, length-replicate}
+use Rattle.paper.specs.Limits.{largest_n}
+use Rattle.sound.proofs.SoundLaws.{passed-formed, passed-end, size-range}
+use Rattle.sound.specs.Asked.{Asks, Passed}
+use Rattle.machine.specs.declared.Ran.{Ran}
+use Rattle.machine.specs.Numbers.{numbers}
+use Rattle.machine.proofs.RunLaws.{run-unfit, run-over, run-cycles}
+use Rattle.machine.proofs.run.Goals as goal
+
+-- the store passed
+abbrev start : tie.After-enum-told → tie.Start
+start c = c.before.before.before.before.before.before
+
+passed : (c : tie.After-enum-told) → Passed (start c).args.regions (start c).args.cells.now c.enum_told.given.0.0
+passed c =
+    let a = (start c).args in
+    subst (λ q. Asks a.regions a.cells.now q) c.enum_told.given.1 c.before.before.asks.ensures
+
+pub returns-then-budget-gt-LARGEST_BUDGET : goal.returns-then-budget-gt-LARGEST_BUDGET
+returns-then-budget-gt-LARGEST_BUDGET c =
+    ap (λ (r : Ran). numbers r c.args.cells.now c.args.out.now) c.came_to-then-budget-gt-LARGEST_BUDGET.ensures
+    ∙ run-over _ _ _ _ (passed («place After-enum_told»)).size c.if-budget-gt-LARGEST_BUDGET.true
+
+pub cycles-requires : goal.cycles-requires
+cycles-requires c =
+    let d = passed («place After-enum_told») in
+    let n = size-range (length c.args.cells.now) d.size in (
+      record {
+        room = omega (arith, n.1, length-replicate {A = ℕ} (2 * (2 * largest_n + 41) + 5) 1);
+        clean = record { large = n.0; small = n.1; sized = length-replicate {A = ℕ} largest_n 1; unmarked = refl };
+      },
+      passed-formed _ _ d.sound,
+      record {
+        low = omega (
+          arith,
+          n.0,
+          n.1,
+          c.table-table.ensures.top,
+          passed-end c.args.regions c.args.cells.now (omega (arith, n.0))
+              d.sound,
+        );
+        regions = _;
+        tells = c.table-table.ensures;
+      },
+    )
+
+pub returns-in-Not : goal.returns-in-Not
+returns-in-Not c =
+    ap (λ (r : Ran). numbers r c.args.cells.now c.args.out.now) c.came_to.ensures
+    ∙ run-unfit _ _ _ _ _ (subst (λ q. Asks c.args.regions c.args.cells.now q) c.in-Not.is c.asks-q.ensures)
+
+pub returns-else-budget-gt-LARGEST_BUDGET : goal.returns-else-budget-gt-LARGEST_BUDGET
+returns-else-budget-gt-LARGEST_BUDGET c =
+    let d = passed («place After-enum_told») in
+    c.cycles.ensures _ c.table-table.ensures ∙ run-cycles _ _ _ _ d.size c.if-budget-gt-LARGEST_BUDGET.false d.sound

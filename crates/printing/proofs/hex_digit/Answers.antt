@@ -1,0 +1,8 @@
+use Rattle.printing.proofs.TextLaws.{hex-low, hex-high}
+use Rattle.printing.proofs.hex_digit.Goals as goal
+
+pub returns-then-d-lt10 : goal.returns-then-d-lt10
+returns-then-d-lt10 c = hex-low _ c.if-d-lt10.true
+
+pub returns : goal.returns
+returns c = hex-high _ c.if-d-lt10.false

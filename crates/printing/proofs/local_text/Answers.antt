@@ -1,0 +1,6 @@
+use Rattle.paper.proofs.Kit.{arith}
+use Rattle.printing.proofs.TextLaws.{text-local}
+use Rattle.printing.proofs.local_text.Goals as goal
+
+pub returns : goal.returns
+returns c = «place After-wide» in text-local _ (omega arith) c₁.wide.ensures c.digits.ensures

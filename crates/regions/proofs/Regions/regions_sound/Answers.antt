@@ -1,0 +1,24 @@
+use Rattle.paper.proofs.Kit.{◌-◌, true, false, refl, ◌∙◌, arith, rules, not-true, not-false}
+use Rattle.regions.proofs.RegionLaws.{sound-turn, sound_none}
+use Rattle.regions.proofs.Regions.regions_sound.Goals as goal
+
+pub loop-i-init : goal.loop-i-init
+loop-i-init c = (search rules, search rules, refl)
+
+pub returns-then-not-letter_new-count : goal.returns-then-not-letter_new-count
+returns-then-not-letter_new-count c =
+    let l = c.loop-i in
+    let k = c.wide-count.ensures.0 in
+    let b = c.letter_new.ensures in
+    sound-turn c.args.t1 l.i (omega arith) _ _ _ _ false b k (not-true _ c.if-not-letter_new-count.true) ∙ l.invariant.2
+
+pub loop-i-preserved : goal.loop-i-preserved
+loop-i-preserved c =
+    let l = c.loop-i in
+    let k = c.wide-count.ensures.0 in
+    let b = c.letter_new.ensures in
+    let e = sound-turn c.args.t1 l.i (omega arith) _ _ _ _ true b k (not-false _ c.if-not-letter_new-count.false) in
+    (search rules, search rules, e ∙ l.invariant.2)
+
+pub returns : goal.returns
+returns c = c.loop-i in sound_none c.args.t1 l.i (omega arith) _ _ ∙ l.invariant.2

@@ -1,0 +1,7 @@
+use Rattle.paper.specs.Process.{retags}
+use Rattle.acts.proofs.Auto.{acting}
+use Rattle.stacks.proofs.retags.Goals as goal
+
+pub returns : goal.returns
+unfolding retags
+returns c = search acting depth 20

@@ -1,0 +1,12 @@
+use Rattle.paper.specs.Process.{J72}
+use Rattle.steps.proofs.Sequence.{then, any-sees}
+use Rattle.undo.proofs.Lines.{looks}
+use Rattle.structures.proofs.Whole.{clean-as}
+use Rattle.structures.proofs.j72.Goals as goal
+
+pub returns : goal.returns
+unfolding J72
+returns c =
+    let p = c.pop in
+    let e = c.erase-go.ensures in
+    (looks _ (any-sees c.own-w0.ensures) (then e.0 p.ensures), clean-as p.auto.0 e.1)

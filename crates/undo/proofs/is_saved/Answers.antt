@@ -1,0 +1,18 @@
+use Rattle.paper.proofs.Kit.{ne_eqb}
+use Rattle.undo.proofs.is_saved.Goals as goal
+
+pub returns-in-1 : goal.returns-in-1
+returns-in-1 c = rw (c.in-1.is)
+
+pub returns-in-2 : goal.returns-in-2
+returns-in-2 c = rw (c.in-2.is)
+
+pub returns-in-3 : goal.returns-in-3
+returns-in-3 c = rw (c.in-3.is)
+
+pub returns-in-6 : goal.returns-in-6
+returns-in-6 c = rw (c.in-6.is)
+
+pub returns-in_default : goal.returns-in_default
+returns-in_default c =
+    let r = c.in_default.rest in simp (ne_eqb _ 1 r.0.0.0.1, ne_eqb _ 2 r.0.0.1, ne_eqb _ 3 r.0.1, ne_eqb _ 6 r.1)
