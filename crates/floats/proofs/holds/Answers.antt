@@ -10,7 +10,7 @@ chosen : {k l : Relation} (a b : ℕ) → k ≡ l → (relation_of l).of_floats 
 chosen a b e = sym (ap (λ (r : Relation). (relation_of r).of_floats (float_of a) (float_of b)) e)
 
 pub returns-then-is_nan : goal.returns-then-is_nan
-returns-then-is_nan c = c.args in sym ((relates x.k).left (float_of x.a) (float_of x.b) (answered c.is_nan.ensures c.if-is_nan.true))
+returns-then-is_nan c = let x = c.args in sym ((relates x.k).left (float_of x.a) (float_of x.b) (answered c.is_nan.ensures c.if-is_nan.true))
 
 pub returns-then-is_nan-2 : goal.returns-then-is_nan-2
 returns-then-is_nan-2 c =
@@ -25,10 +25,10 @@ pub float_from_bits-y : goal.float_from_bits-y
 float_from_bits-y c = pattern c.args.b (answered c.is_nan-2.ensures c.if-is_nan-2.false)
 
 pub returns-in-Equal : goal.returns-in-Equal
-returns-in-Equal c = c.args in chosen x.a x.b c.in-Equal.is
+returns-in-Equal c = let x = c.args in chosen x.a x.b c.in-Equal.is
 
 pub returns-in-Above : goal.returns-in-Above
-returns-in-Above c = c.args in chosen x.a x.b c.in-Above.is
+returns-in-Above c = let x = c.args in chosen x.a x.b c.in-Above.is
 
 pub returns-in-Below : goal.returns-in-Below
-returns-in-Below c = c.args in chosen x.a x.b c.in-Below.is
+returns-in-Below c = let x = c.args in chosen x.a x.b c.in-Below.is

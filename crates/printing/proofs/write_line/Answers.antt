@@ -3,7 +3,7 @@ use Rattle.printing.proofs.TextLaws.{paste_more}
 use Rattle.printing.proofs.write_line.Goals as goal
 
 pub loop-i-init : goal.loop-i-init
-loop-i-init c = c.args in (search rules, refl, paste-zero a.out.now a.at a.line.now)
+loop-i-init c = let a = c.args in (search rules, refl, paste-zero a.out.now a.at a.line.now)
 
 pub loop-i-preserved : goal.loop-i-preserved
 loop-i-preserved c =

@@ -23,4 +23,4 @@ loop-left-preserved c =
     ∙ l.invariant
 
 pub returns : goal.returns
-returns c = c.loop-left in list-end c.args.cells.now l.left l.c c.loop-left-test.false ∙ l.invariant
+returns c = let l = c.loop-left in list-end c.args.cells.now l.left l.c c.loop-left-test.false ∙ l.invariant

@@ -7,10 +7,10 @@ use Rattle.cells.specs.Layout.{unpack_of, value_of}
 use Rattle.cells.proofs.tally.one_more.Goals as goal
 
 pub overflow_add-result : goal.overflow_add-result
-overflow_add-result c = ltb-true c.args.x (2 * 2 ^ 48 + (2 ^ 32 - 1)) c.if-x-lt-LAST.true in omega arith
+overflow_add-result c = let l = c.if-x-lt-LAST.true in omega arith
 
 pub returns-then-x-lt-LAST : goal.returns-then-x-lt-LAST
-returns-then-x-lt-LAST c = next-number c.args.x c.if-x-ge-TERM.true (ltb-true _ _ c.if-x-lt-LAST.true)
+returns-then-x-lt-LAST c = next-number c.args.x c.if-x-ge-TERM.true c.if-x-lt-LAST.true
 
 pub returns-then-t-eq-LARGEST : goal.returns-then-t-eq-LARGEST
 returns-then-t-eq-LARGEST c =

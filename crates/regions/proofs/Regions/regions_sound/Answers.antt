@@ -21,4 +21,4 @@ loop-i-preserved c =
     (search rules, search rules, e ∙ l.invariant.2)
 
 pub returns : goal.returns
-returns c = c.loop-i in sound_none c.args.t1 l.i (omega arith) _ _ ∙ l.invariant.2
+returns c = let l = c.loop-i in sound_none c.args.t1 l.i (omega arith) _ _ ∙ l.invariant.2

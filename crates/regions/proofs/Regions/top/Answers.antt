@@ -12,4 +12,4 @@ loop-i-preserved c =
     (search rules, search rules, end_more r l.i (omega arith) _ _ c.wide-at.ensures.0 ∙ l.invariant.2)
 
 pub returns : goal.returns
-returns c = c.loop-i in end_none c.args.t1 l.i (omega arith) _ ∙ l.invariant.2
+returns c = let l = c.loop-i in end_none c.args.t1 l.i (omega arith) _ ∙ l.invariant.2
