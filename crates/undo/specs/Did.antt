@@ -3,7 +3,7 @@
 use Rattle.std.specs.Prelude.{ℕ, ◌+◌, ◌≤◌, ◌≡◌, refl, Bool, cond, ◌&&◌, List, ltb}
 use Rattle.std.proofs.Common.{◌∙◌, arith}
 use denote.Triple.Both.{Both}
-use Rattle.std.specs.Borrow.{Bor}
+use Rattle.std.specs.Borrow.{Bor, MutBor}
 use Rattle.paper.specs.declared.Symbol.{Symbol}
 use Rattle.paper.specs.declared.Refusal.{Refusal}
 use Rattle.paper.specs.Limits.{first_deck}
@@ -66,20 +66,23 @@ lent =
       more = λ k i x y h p. record { back = p.back; count = omega arith; formed = p.formed };
     }
 
--- Contracts. A lent slice, before and after; and the verdict, before and after.
+-- Contracts. A lent slice, before and after; one that is only read; and the verdict, before and after.
 abbrev pub Lent : Type 0
-Lent = Both (Bor (List ℕ)) (Bor (List ℕ))
+Lent = Both (MutBor (List ℕ)) (MutBor (List ℕ))
+
+abbrev pub Shown : Type 0
+Shown = Both (Bor (List ℕ)) (Bor (List ℕ))
 
 -- a test: no state is read or written
 abbrev pub Judged : Act (Unit {0}) → ℕ → ℕ → Type 0
 Judged M go r = Follows (testing State Refusal) steps.Always 0 M tt (told go) tt (told r) tt
 
 -- a part of the state is v
-abbrev pub Sees : {A : Type 0} → (Rest → Type 0) → Act A → Lent → A → Type 0
+abbrev pub Sees : {A : Type 0} → (Rest → Type 0) → Act A → Shown → A → Type 0
 Sees K M cells v = steps.Sees reading K M cells.entry.now v
 
 -- a value is read, or the reading is refused
-abbrev pub Reads : {A : Type 0} → (Rest → Type 0) → Act A → Lent → ℕ → ℕ → A → Type 0
+abbrev pub Reads : {A : Type 0} → (Rest → Type 0) → Act A → Shown → ℕ → ℕ → A → Type 0
 Reads K M cells go r v = Follows reading K 0 M cells.entry.now (told go) cells.entry.now (told r) v
 
 -- what writes, in at most k writes that are logged

@@ -29,7 +29,7 @@ returns-then-done-budget c =
     ap (λ (r : Ran). numbers r c.loop-budget.cells c.loop-budget.out) c.came_to.ensures
     ∙ closes rs c.args.budget _ c.args.cells.now c.args.out.now c.loop-budget.cells c.loop-budget.out _ refl refl c.loop-budget.invariant.1
     c.loop-budget.invariant.3 c.loop-budget.invariant.7 (c.loop-budget.invariant.8 rs w)
-    (ap (λ i. run_from i c.loop-budget.done t) none ∙ run-spent t c.loop-budget.done (sym c.finished.ensures ∙ not-true _ c.loop-budget-test.true))
+    (ap (λ i. run_from i c.loop-budget.done t) none ∙ run-spent t c.loop-budget.done (sym c.finished.ensures ∙ c.loop-budget-test.true))
 
 pub cycle-c-requires : goal.cycle-c-requires
 cycle-c-requires c =
@@ -66,7 +66,7 @@ loop-budget-preserved c =
           (λ r. Came rs c.loop-budget.cells c.loop-budget.out c.loop-budget.at c.cycle-c.new.cells c.cycle-c.new.order.1.1.1.0 r)
           c.in-Progress.is (c.cycle-c.ensures rs w).came in
           l.8 rs w ∙ run-goes (state_at rs c.loop-budget.cells c.loop-budget.out c.loop-budget.at) c.loop-budget.done c.args.budget more
-          (sym c.finished.ensures ∙ not-true _ c.loop-budget-test.true) _ goes,
+          (sym c.finished.ensures ∙ c.loop-budget-test.true) _ goes,
     )
 
 pub returns-in-Refused : goal.returns-in-Refused
@@ -80,7 +80,7 @@ returns-in-Refused c =
     let more : c.loop-budget.done < c.args.budget = omega (arith, l.2, c.if-done-budget.false) in
     ap (λ (r : Ran). numbers r c.cycle-c.new.cells c.cycle-c.new.order.1.1.1.0) c.came_to-in-Refused.ensures
     ∙ closes rs c.args.budget _ c.args.cells.now c.args.out.now c.loop-budget.cells c.loop-budget.out _ s o l.1 l.3 l.7 (l.8 rs w)
-    (run-stops t c.loop-budget.done c.args.budget more (sym c.finished.ensures ∙ not-true _ c.loop-budget-test.true) _ q)
+    (run-stops t c.loop-budget.done c.args.budget more (sym c.finished.ensures ∙ c.loop-budget-test.true) _ q)
 
 pub returns : goal.returns
 unfolding is_finished
@@ -90,4 +90,4 @@ returns c =
     ap (λ (r : Ran). numbers r c.loop-budget.cells c.loop-budget.out) c.came_to-2.ensures
     ∙ closes rs c.args.budget _ c.args.cells.now c.args.out.now c.loop-budget.cells c.loop-budget.out _ refl refl l.1 l.3 l.7 (l.8 rs w)
     (run-finishes (state_at rs c.loop-budget.cells c.loop-budget.out c.loop-budget.at) c.loop-budget.done _
-    (sym c.finished.ensures ∙ not-false _ c.loop-budget-test.false))
+    (sym c.finished.ensures ∙ c.loop-budget-test.false))

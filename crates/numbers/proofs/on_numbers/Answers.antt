@@ -57,4 +57,4 @@ pub returns-in_default : goal.returns-in_default
 unfolding none_for listed member
 returns-in_default c =
     unlisted 110 129 _ (110 ∷ 111 ∷ 114 ∷ 115 ∷ 116 ∷ 117 ∷ 118 ∷ 119 ∷ 120 ∷ 123 ∷ 124 ∷ 125 ∷ []) refl (omega arith) (omega arith)
-    c.in_default.rest c.refuse_if.ensures
+    c.in_default.in_default-own.rest c.refuse_if.ensures

@@ -32,5 +32,5 @@ returns-in-6 c =
 
 pub returns-in_default : goal.returns-in_default
 returns-in_default c =
-    let no = c.in_default.rest in
+    let no = c.in_default.in_default-own.rest in
     sym (kind-none _ _ c.requires.0 no.0.0.0.0.0.1 no.0.0.0.0.1 no.0.0.0.1 no.0.0.1 no.0.1 no.1)

@@ -8,12 +8,12 @@ abbrev start : tie.After-top → tie.Start
 start c = c.before.before.before.before.before.before
 
 pub returns-then-not-size_fits : goal.returns-then-not-size_fits
-returns-then-not-size_fits c = unfit-size _ _ (sym c.size_fits.ensures ∙ not-true _ c.if-not-size_fits.true)
+returns-then-not-size_fits c = unfit-size _ _ (sym c.size_fits.ensures ∙ c.if-not-size_fits.true)
 
 pub returns-then-not-sound : goal.returns-then-not-sound
 returns-then-not-sound c =
-    let e = sym c.size_fits.ensures ∙ not-false _ c.if-not-size_fits.false in
-    unfit-unsound _ _ e (sym c.sound.ensures ∙ not-true _ c.if-not-sound.true)
+    let e = sym c.size_fits.ensures ∙ c.if-not-size_fits.false in
+    unfit-unsound _ _ e (sym c.sound.ensures ∙ c.if-not-sound.true)
 
 pub overflow_cast-result : goal.overflow_cast-result
 overflow_cast-result c =
@@ -25,7 +25,7 @@ overflow_cast-result c =
 pub returns : goal.returns
 returns c =
     record {
-      size = sym c.size_fits.ensures ∙ not-false _ c.if-not-size_fits.false;
-      sound = sym c.sound.ensures ∙ not-false _ c.if-not-sound.false;
+      size = sym c.size_fits.ensures ∙ c.if-not-size_fits.false;
+      sound = sym c.sound.ensures ∙ c.if-not-sound.false;
       end = sym c.top.ensures;
     }

@@ -9,7 +9,7 @@ pub returns-then-not-number_sound : goal.returns-then-not-number_sound
 returns-then-not-number_sound c =
     let l = c.loop-c in
     let a = c.args in
-    let f = sym (not-true _ c.if-not-number_sound.true) ∙ c.number_sound.ensures in
+    let f = sym c.if-not-number_sound.true ∙ c.number_sound.ensures in
     let p = pass-turn a.cells.now l.c c.loop-c-test.true _ a.end false f in
     pass-no a.cells.now a.end (sym (p ∙ l.invariant.2))
 
@@ -21,7 +21,7 @@ loop-c-preserved c =
     let l = c.loop-c in
     let a = c.args in
     let h = c.loop-c-test.true in
-    let f = sym (not-false _ c.if-not-number_sound.false) ∙ c.number_sound.ensures in (
+    let f = sym c.if-not-number_sound.false ∙ c.number_sound.ensures in (
       search rules,
       omega (arith, one-most c.is_free.result),
       pass-turn a.cells.now l.c h _ a.end true f ∙ l.invariant.2,

@@ -7,14 +7,14 @@ pub returns-then-not-table-peek : goal.returns-then-not-table-peek
 returns-then-not-table-peek c =
     let a = c.args in
     let table = c.regions_sound.ensures in
-    from_first a.regions a.cells.now _ false _ table c.peek.ensures (not-true _ c.if-not-table-peek.true)
+    from_first a.regions a.cells.now _ false _ table c.peek.ensures c.if-not-table-peek.true
 
 pub returns-in-Unsound : goal.returns-in-Unsound
 returns-in-Unsound c =
     let a = c.args in
     let table = c.regions_sound.ensures in
     at-unsound a.regions a.cells.now _ _ c.top.ensures c.cells_sound.ensures c.in-Unsound.is
-    ∙ from_first a.regions a.cells.now _ true _ table c.peek.ensures (not-false _ c.if-not-table-peek.false)
+    ∙ from_first a.regions a.cells.now _ true _ table c.peek.ensures c.if-not-table-peek.false
 
 pub returns-in-Free : goal.returns-in-Free
 returns-in-Free c =

@@ -27,4 +27,4 @@ pub returns-in_default : goal.returns-in_default
 unfolding none_for listed member
 returns-in_default c =
     let p = c.requires in
-    (unlisted 71 74 _ (71 ∷ 72 ∷ 74 ∷ []) refl (omega arith) (omega arith) c.in_default.rest c.refuse_if.ensures, p.0)
+    (unlisted 71 74 _ (71 ∷ 72 ∷ 74 ∷ []) refl (omega arith) (omega arith) c.in_default.in_default-own.rest c.refuse_if.ensures, p.0)

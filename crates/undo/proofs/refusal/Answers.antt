@@ -34,4 +34,4 @@ pub returns-in-30 : goal.returns-in-30
 returns-in-30 c = told-number c.args.go 30 (omega arith) c.in-30.is
 
 pub returns-in_default : goal.returns-in_default
-returns-in_default c = told-other c.args.go (omega arith) c.in_default.rest
+returns-in_default c = told-other c.args.go (omega arith) c.in_default.in_default-own.rest

@@ -32,4 +32,4 @@ returns-in-5 c =
 pub returns-in_default : goal.returns-in_default
 unfolding operate choose
 returns-in_default c =
-    operates c.args.p 6 _ (the-sixth _ c.requires.1 c.requires.2 c.in_default.rest) refl (omega arith) (λ e h. tt) c.copy_to.ensures
+    operates c.args.p 6 _ (the-sixth _ c.requires.1 c.requires.2 c.in_default.in_default-own.rest) refl (omega arith) (λ e h. tt) c.copy_to.ensures

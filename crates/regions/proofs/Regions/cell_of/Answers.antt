@@ -13,4 +13,4 @@ returns-in-74 c = c.inside-in-74.ensures ∙ sym (cell-J _ _ _ c.in-74.is)
 
 pub returns-in_default : goal.returns-in_default
 returns-in_default c =
-    c.in_deck.ensures ∙ sym (cell-deck _ _ _ c.in_default.rest.0.0.1 c.in_default.rest.0.1 c.in_default.rest.1)
+    c.in_deck.ensures ∙ sym (cell-deck _ _ _ c.in_default.in_default-own.rest.0.0.1 c.in_default.in_default-own.rest.0.1 c.in_default.in_default-own.rest.1)

@@ -8,16 +8,16 @@ loop-i-init c = refl
 pub returns-then-self-i : goal.returns-then-self-i
 returns-then-self-i c =
     let l = c.loop-i in
-    let e = taken_here c.args.t1 l.i (omega arith) _ c.if-self-i.true in
+    let e = taken_here c.args.self l.i (omega arith) _ c.if-self-i.true in
     taken-there _ _ (sym l.invariant ∙ e)
 
 pub loop-i-preserved : goal.loop-i-preserved
 loop-i-preserved c =
     let l = c.loop-i in
-    taken_more c.args.t1 l.i (omega arith) _ c.if-self-i.false ∙ l.invariant
+    taken_more c.args.self l.i (omega arith) _ c.if-self-i.false ∙ l.invariant
 
 pub returns : goal.returns
 returns c =
     let l = c.loop-i in
-    let e = taken_none c.args.t1 l.i (omega arith) _ in
+    let e = taken_none c.args.self l.i (omega arith) _ in
     not_there _ _ (sym l.invariant ∙ e)

@@ -10,15 +10,15 @@ returns-then-not-letter_new-count c =
     let l = c.loop-i in
     let k = c.wide-count.ensures.0 in
     let b = c.letter_new.ensures in
-    sound-turn c.args.t1 l.i (omega arith) _ _ _ _ false b k (not-true _ c.if-not-letter_new-count.true) ∙ l.invariant.2
+    sound-turn c.args.self l.i (omega arith) _ _ _ _ false b k c.if-not-letter_new-count.true ∙ l.invariant.2
 
 pub loop-i-preserved : goal.loop-i-preserved
 loop-i-preserved c =
     let l = c.loop-i in
     let k = c.wide-count.ensures.0 in
     let b = c.letter_new.ensures in
-    let e = sound-turn c.args.t1 l.i (omega arith) _ _ _ _ true b k (not-false _ c.if-not-letter_new-count.false) in
+    let e = sound-turn c.args.self l.i (omega arith) _ _ _ _ true b k c.if-not-letter_new-count.false in
     (search rules, search rules, e ∙ l.invariant.2)
 
 pub returns : goal.returns
-returns c = let l = c.loop-i in sound_none c.args.t1 l.i (omega arith) _ _ ∙ l.invariant.2
+returns c = let l = c.loop-i in sound_none c.args.self l.i (omega arith) _ _ ∙ l.invariant.2

@@ -10,7 +10,7 @@ loop-i-init c = (search rules, search rules, refl, no_rows _)
 pub loop-i-preserved : goal.loop-i-preserved
 loop-i-preserved c =
     let l = c.loop-i in
-    let r = c.args.t1 in
+    let r = c.args.self in
     let h : l.i < length (regions_of r) = omega arith in (
       search rules,
       search rules,
@@ -21,6 +21,6 @@ loop-i-preserved c =
 pub returns : goal.returns
 returns c =
     let l = c.loop-i in
-    let r = c.args.t1 in
+    let r = c.args.self in
     let m : l.i ≡ length (regions_of r) = omega arith in
     tells r l.i l.at l.t m l.invariant.3 (end_none r l.i (omega arith) _ ∙ l.invariant.2)

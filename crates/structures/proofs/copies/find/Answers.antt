@@ -88,7 +88,7 @@ loop-i-preserved c =
       subst (Only _) (sym (back_more c.args.order.now l.i (omega arith))) (only-more _ _ l.invariant.2),
       subst (λ ns. Run (unpacked s) x ns c.free_link-next.result) (sym e)
           (run-found s (news_of l.marks c.args.order.now l.i) x l.next c.peek-x.result l.invariant.3
-          c.if-next-eq0.false c.peek-x.ensures (sym c.is_free.ensures ∙ not-false _ c.if-not-is_free.false)
+          c.if-next-eq0.false c.peek-x.ensures (sym c.is_free.ensures ∙ c.if-not-is_free.false)
           c.free_link-next.ensures),
     )
 
