@@ -1,11 +1,8 @@
-use Rattle.paper.proofs.Kit.{sym, ◌∙◌, not-true, not-false, arith, length}
+use Rattle.paper.proofs.Kit.{sym, ◌∙◌, arith, length}
 use Rattle.sound.proofs.SoundLaws.{passed-end, size-range}
+use Rattle.sound.specs.Asked.{Passed}
 use Rattle.sound.proofs.AskLaws.{unfit-size, unfit-unsound}
 use Rattle.sound.proofs.asks.Goals as goal
-
--- the store passed
-abbrev start : tie.After-top → tie.Start
-start c = c.before.before.before.before.before.before
 
 pub returns-then-not-size_fits : goal.returns-then-not-size_fits
 returns-then-not-size_fits c = unfit-size _ _ (sym c.size_fits.ensures ∙ c.if-not-size_fits.true)
@@ -17,10 +14,10 @@ returns-then-not-sound c =
 
 pub overflow_cast-result : goal.overflow_cast-result
 overflow_cast-result c =
-    let p = passed c in
-    let a = (start c).args in
-    let n = size-range (length a.cells.now) p.size in
-    record { fits = omega (arith, n.1, passed-end a.regions a.cells.now (omega (arith, n.0)) p.sound, p.end) }
+    let a = c.args in
+    let n = size-range (length a.cells.now) (sym c.size_fits.ensures ∙ c.if-not-size_fits.false) in
+    let e = sym c.top.ensures in
+    record { fits = omega (arith, n.1, passed-end a.regions a.cells.now (omega (arith, n.0)) (sym c.sound.ensures ∙ c.if-not-sound.false), e) }
 
 pub returns : goal.returns
 returns c =

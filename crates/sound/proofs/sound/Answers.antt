@@ -18,10 +18,9 @@ returns-in-Unsound c =
 
 pub returns-in-Free : goal.returns-in-Free
 returns-in-Free c =
-    let t = «place Else1» in
-    let a = t.before.before.before.before.before.args in
-    let table = t.before.before.regions-sound.ensures in
+    let a = c.args in
+    let table = c.regions_sound.ensures in
     c.free_list.ensures
     ∙ ap (free_list _ _) c.free_start.ensures
     ∙ at-free a.regions a.cells.now _ _ c.top.ensures c.cells_sound.ensures _ c.in-Free.is
-    ∙ from_first a.regions a.cells.now _ true _ table t.before.peek.ensures (not-false _ t.if1.false)
+    ∙ from_first a.regions a.cells.now _ true _ table c.peek.ensures c.if-not-table-peek.false
