@@ -5,19 +5,8 @@ use Rattle.steps.proofs.Listed.{entry_for, none_for}
 use Rattle.steps.proofs.Sequence.{give}
 use Rattle.acts.proofs.Dispatch.{arms, arm, tens, unlisted}
 use Rattle.stacks.proofs.Each.{in-ten}
+use Rattle.stacks.proofs.on_stacks.Goals.{in_default-via-then-j-lt20, in_default-via-else-j-lt20+else-j-lt30+else-j-lt40+else-j-lt50+else-j-lt60}
 use Rattle.stacks.proofs.on_stacks.Goals as goal
-
-pub j2n-requires : goal.j2n-requires
-j2n-requires c = (in-ten 20 _ c.if-j-lt30.true, search rules)
-
-pub j3n-requires : goal.j3n-requires
-j3n-requires c = (in-ten 30 _ c.if-j-lt40.true, search rules)
-
-pub j4n-requires : goal.j4n-requires
-j4n-requires c = (in-ten 40 _ c.if-j-lt50.true, search rules)
-
-pub j5n-requires : goal.j5n-requires
-j5n-requires c = (in-ten 50 _ c.if-j-lt60.true, search rules)
 
 pub returns-in-0 : goal.returns-in-0
 unfolding entry_for listed
@@ -75,4 +64,4 @@ pub returns-in_default : goal.returns-in_default
 unfolding none_for listed member
 returns-in_default c =
     unlisted 0 19 _ (0 ∷ 2 ∷ 3 ∷ 4 ∷ 5 ∷ 6 ∷ 8 ∷ 9 ∷ 1 ∷ []) refl (omega arith)
-    (⊎_elim (λ a. omega (arith, a.taken)) (λ b. omega (arith, b.4.left)) c.in_default.branch) (c.in_default-1.rest, c.requires.2) c.refuse_if.ensures
+    (elim c.in_default.branch [ in_default-via-then-j-lt20 w ↦ omega arith | in_default-via-else-j-lt20+else-j-lt30+else-j-lt40+else-j-lt50+else-j-lt60 w ↦ omega arith ]) (search rules, c.requires.2) c.refuse_if.ensures
