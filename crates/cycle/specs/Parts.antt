@@ -8,7 +8,7 @@ use Rattle.steps.specs.Follows.{Follows}
 use Rattle.regions.specs.Lent.{Tells, Told}
 use Rattle.undo.specs.Verdict.{told}
 use Rattle.undo.specs.Log.{Room}
-use Rattle.undo.specs.Did.{Lent}
+use Rattle.undo.specs.Did.{Lent, Shown}
 use Rattle.structures.specs.Walks.{Clean}
 use Rattle.printing.specs.declared.Printed.{Printed}
 use Rattle.printing.specs.Telling.{Hears, telling, line_in, Stands}
@@ -21,7 +21,7 @@ pub record Part {A : Type 0} (table : List ℕ) (k : ℕ) (M : Act A) (x : List 
   pub stands : Stands d at d' r
 
 -- the contract: over the lent cells, log, table and output
-abbrev pub Steps : {A : Type 0} → ℕ → Act A → Lent → Lent → Lent → Lent → ℕ → Printed → A → Type 0
+abbrev pub Steps : {A : Type 0} → ℕ → Act A → Lent → Lent → Shown → Lent → ℕ → Printed → A → Type 0
 Steps k M cells log table out at r v =
     Part table.entry.now k M (cells.entry.now, log.entry.now) out.entry.now at (cells.exit.now, log.exit.now) out.exit.now r v
 

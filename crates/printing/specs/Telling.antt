@@ -11,7 +11,7 @@ use Rattle.cells.specs.Bridge.{Rest, state_of}
 use Rattle.steps.specs.Follows.{World, Follows}
 use Rattle.regions.specs.Lent.{Tells}
 use Rattle.undo.specs.Verdict.{told}
-use Rattle.undo.specs.Did.{Kept, lent, Lent}
+use Rattle.undo.specs.Did.{Kept, lent, Lent, Shown}
 use Rattle.printing.specs.declared.Printed.{Printed}
 
 -- what of a state is neither cells nor lines: the regions, and the room there was for the line
@@ -66,7 +66,7 @@ pub record Printing {A : Type 0} (table : List ℕ) (M : Act A) (x : List ℕ ×
   pub stands : Stands d at d' r
 
 -- the contract: the lent table, cells, log and output, where the output has been written so far, and the verdict
-abbrev pub Prints : {A : Type 0} → Act A → Lent → Lent → Lent → Lent → ℕ → ℕ → Printed → A → Type 0
+abbrev pub Prints : {A : Type 0} → Act A → Lent → Lent → Shown → Lent → ℕ → ℕ → Printed → A → Type 0
 Prints M cells log table out at go r v =
     Printing table.entry.now M (cells.entry.now, log.entry.now) out.entry.now at go (cells.exit.now, log.exit.now)
     out.exit.now r v

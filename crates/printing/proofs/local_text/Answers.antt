@@ -3,4 +3,4 @@ use Rattle.printing.proofs.TextLaws.{text-local}
 use Rattle.printing.proofs.local_text.Goals as goal
 
 pub returns : goal.returns
-returns c = «place After-wide» in text-local _ (omega arith) c₁.wide.ensures c.digits.ensures
+returns c = text-local _ (omega arith) c.wide.ensures c.digits.ensures
