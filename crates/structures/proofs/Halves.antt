@@ -1,13 +1,13 @@
 -- As many cells can be taken as are free, and one: so where each of n cells in use has got a new one, there are no fewer than 2 n - 1 cells.
-use Rattle.paper.proofs.Kit.{clash, ◌||◌, ℕ, zero, suc, ◌+◌, ◌<◌, ◌≤◌, ◌≡◌, refl, sym, ap, ◌∙◌, subst, Bool, true, false, List, [], ◌∷◌, ◌≢◌, arith}
-use Rattle.paper.proofs.Kit.{Option, none, some, cond, eqb, eqb-true, eqb-false, eq-eqb, ne_eqb, ltb, ltb-true, ltb-false, length, set, length-set}
-use Rattle.paper.proofs.Kit.{List·getD-eq-default, get_or-set_same, get_or-set_other, set_out}
+use Rattle.paper.proofs.Kit.{clash, ℕ, zero, suc, ◌+◌, ◌<◌, ◌≤◌, ◌≡◌, refl, sym, ap, ◌∙◌, Bool, true, false, List, [], ◌∷◌, ◌≢◌, arith}
+use Rattle.paper.proofs.Kit.{Option, none, some, cond, eqb, eqb-true, eqb-false, eq-eqb, length, set, length-set}
+use Rattle.paper.proofs.Kit.{get_or-set_same, get_or-set_other}
 use Rattle.paper.specs.declared.Refusal.{Refusal}
 use Rattle.paper.specs.declared.Refusal.TheVariants.{NoFreeCell}
-use Rattle.paper.specs.Cell.{State, Word, Cell, free, word, term, process, is_free, word_in, free_link, empty_word, with_link, with_cells, cell_at}
+use Rattle.paper.specs.Cell.{State, Cell, free, word, term, process, is_free, word_in, free_link, empty_word, with_link, with_cells, cell_at}
 use Rattle.paper.specs.Sound.{free_count}
 use Rattle.paper.specs.Step.{Step, refuse}
-use Rattle.paper.specs.Act.{Res, done, refused, ◌>>=◌, ◌>>◌, ret, own, peek, put, take_as}
+use Rattle.paper.specs.Act.{Res, done, refused, ◌>>◌, ret, own, peek, put, take_as}
 use Rattle.paper.specs.Walk.{member, take_all}
 use Rattle.steps.specs.Follows.{left, To}
 use Rattle.steps.proofs.Steps.{bind_ok, bind-no, then_ok, then-no, passes, fails}

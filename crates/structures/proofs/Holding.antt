@@ -62,6 +62,18 @@ module _ {s order marks : List ℕ} {n : ℕ} (h : Holds s order marks n) where
 pub holds_as : {s order marks order' marks' : List ℕ} {n : ℕ} → order' ≡ order → marks' ≡ marks → Holds s order marks n → Holds s order' marks' n
 holds_as {s} {order} {marks} {order'} {marks'} {n} p q h = subst (λ o. Holds s o marks' n) (sym p) (subst (λ m. Holds s order m n) (sym q) h)
 
+-- a new cell was put in the order
+module _ {s order marks order' marks' : List ℕ} {n c : ℕ} (h : Holds s order marks n) (new : New s c (back n order))
+    (e : (order' ≡ set order n c) × (marks' ≡ set marks c 1)) where
+  pub listed-held : Holds s order' marks' (n + 1)
+  listed-held = holds_as e.0 e.1 (holds_more h c new)
+
+  pub listed-less : unmet (length s) marks' + 1 ≡ unmet (length s) marks
+  listed-less = ap (λ m. unmet (length s) m + 1) e.1 ∙ fewer h c new
+
+  pub listed-more : back (n + 1) order' ≡ c ∷ back n order
+  listed-more = ap (back (n + 1)) e.0 ∙ seen_more h c new
+
 -- with no cell met
 pub ordered-none : {s order : List ℕ} → length order ≡ largest_n → Ordered s order 0
 ordered-none h = record { sized = h; inside = λ k l. absurd (omega arith); in_use = λ k l. absurd (omega arith); once = tt }

@@ -9,8 +9,8 @@ pub returns : goal.returns
 unfolding J71
 returns c =
     let p = c.pop in
-    let w = c.chain-l.ensures in (
-      looks _ (any-sees c.own-w0.ensures)
-          (reads _ (any w.says) (most _ (omega (arith, w.few)) (then c.erase_back-go.ensures p.ensures))),
-      lists-clean c.requires.0 (omega (arith, p.auto.0, c.erase_back-go.auto.cells)) w,
-    )
+    let w = c.chain-l.ensures in record {
+      did = looks _ (any-sees c.own-w0.ensures)
+          (reads _ (any w.says) (most _ (omega (arith, w.few)) (then c.erase_back-go.ensures p.ensures)));
+      clean = lists-clean c.requires.0 (omega (arith, p.auto.cells, c.erase_back-go.auto.cells)) w;
+    }

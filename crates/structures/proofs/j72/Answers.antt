@@ -9,4 +9,4 @@ unfolding J72
 returns c =
     let p = c.pop in
     let e = c.erase-go.ensures in
-    (looks _ (any-sees c.own-w0.ensures) (then e.0 p.ensures), clean-as p.auto.0 e.1)
+    record { did = looks _ (any-sees c.own-w0.ensures) (then e.did p.ensures); clean = clean-as p.auto.cells e.clean }

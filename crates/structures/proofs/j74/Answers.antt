@@ -9,7 +9,7 @@ use Rattle.structures.proofs.j74.Goals as goal
 pub returns : goal.returns
 unfolding J74
 returns c =
-    let t = c.copy-t.ensures in (
-      most _ (omega arith) (looks _ (any-sees c.own-w0.ensures) (bind _ (any t.0) (alike (ap (gives 1) c.copy_name.ensures) c.gives1.ensures))),
-      clean-as c.gives1.auto.cells t.1,
-    )
+    let t = c.copy-t.ensures in record {
+      did = most _ (omega arith) (looks _ (any-sees c.own-w0.ensures) (bind _ (any t.did) (alike (ap (gives 1) c.copy_name.ensures) c.gives1.ensures)));
+      clean = clean-as c.gives1.auto.cells t.clean;
+    }

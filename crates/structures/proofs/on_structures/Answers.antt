@@ -1,4 +1,4 @@
-use Rattle.paper.proofs.Kit.{[], ◌∷◌, refl, arith}
+use Rattle.paper.proofs.Kit.{rules, [], ◌∷◌, refl, arith}
 use Rattle.paper.specs.Walk.{member}
 use Rattle.paper.specs.Process.{listed}
 use Rattle.steps.proofs.Listed.{entry_for, none_for}
@@ -9,22 +9,25 @@ pub returns-in-71 : goal.returns-in-71
 unfolding entry_for listed
 returns-in-71 c =
     let p = c.j71.ensures in
-    (arm 71 _ p.0 (λ e h. h) (omega arith) refl (omega arith), p.1)
+    record { did = arm 71 _ p.did (λ e h. h) (omega arith) refl (omega arith); clean = p.clean }
 
 pub returns-in-72 : goal.returns-in-72
 unfolding entry_for listed
 returns-in-72 c =
     let p = c.j72.ensures in
-    (arm 72 _ p.0 (λ e h. h) (omega arith) refl (omega arith), p.1)
+    record { did = arm 72 _ p.did (λ e h. h) (omega arith) refl (omega arith); clean = p.clean }
 
 pub returns-in-74 : goal.returns-in-74
 unfolding entry_for listed
 returns-in-74 c =
     let p = c.j74.ensures in
-    (arm 74 _ p.0 (λ e h. h) (omega arith) refl (omega arith), p.1)
+    record { did = arm 74 _ p.did (λ e h. h) (omega arith) refl (omega arith); clean = p.clean }
 
 pub returns-in_default : goal.returns-in_default
 unfolding none_for listed member
 returns-in_default c =
     let p = c.requires in
-    (unlisted 71 74 _ (71 ∷ 72 ∷ 74 ∷ []) refl (omega arith) (omega arith) c.in_default.in_default-own.rest c.refuse_if.ensures, p.0)
+    record {
+      did = unlisted 71 74 _ (71 ∷ 72 ∷ 74 ∷ []) refl (omega arith) (omega arith) (search rules) c.refuse_if.ensures;
+      clean = p.0;
+    }

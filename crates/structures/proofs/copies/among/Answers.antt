@@ -1,4 +1,4 @@
-use Rattle.paper.proofs.Kit.{◌-◌, ◌≡◌, refl, sym, ◌∙◌, subst, false, true≢false, arith}
+use Rattle.paper.proofs.Kit.{◌≡◌, refl, sym, ◌∙◌, subst, false, true≢false, arith}
 use Rattle.paper.specs.Walk.{member}
 use Rattle.structures.specs.Copies.{news_of}
 use Rattle.structures.proofs.Lists.{news-next, member-end}
@@ -8,14 +8,6 @@ pub loop-i-init : goal.loop-i-init
 unfolding member
 loop-i-init c = (omega arith, refl)
 
-pub offset_bounds-order-i : goal.offset_bounds-order-i
-unfolding member
-offset_bounds-order-i c = omega arith
-
-pub bounds-order-i : goal.bounds-order-i
-unfolding member
-bounds-order-i c = omega arith
-
 pub mark_at-requires : goal.mark_at-requires
 unfolding member
 mark_at-requires c = c.requires.2
@@ -23,14 +15,6 @@ mark_at-requires c = c.requires.2
 pub returns-then-mark_at-c : goal.returns-then-mark_at-c
 unfolding member
 returns-then-mark_at-c c = λ e. absurd (true≢false e)
-
-pub overflow_add-i : goal.overflow_add-i
-unfolding member
-overflow_add-i c = omega arith
-
-pub loop-i-smaller : goal.loop-i-smaller
-unfolding member
-loop-i-smaller c = omega arith
 
 pub loop-i-preserved : goal.loop-i-preserved
 loop-i-preserved c =

@@ -12,18 +12,18 @@ pub copy_all-requires : goal.copy_all-requires
 copy_all-requires c =
     let t = c.prepare-go in
     let p = c.requires in
-    (t.ensures.1, record { fits = omega (arith, t.ensures.0.count, t.ensures.0.fits, t.auto.1.0, p.1.fits) })
+    (t.ensures.clears, record { fits = omega (arith, t.ensures.prepares.count, t.ensures.prepares.fits, t.auto.log, p.1.fits) })
 
 pub returns : goal.returns
 returns c =
     let p = c.requires in
     let t = c.prepare-go.ensures in
-    let w = c.walk-w.ensures in (
-      copied-whole _ _ _ _ w.says t.0 c.copy_all.ensures c.mark_at-name.ensures,
-      record {
+    let w = c.walk-w.ensures in record {
+      did = copied-whole _ _ _ _ w.says t.prepares c.copy_all.ensures c.mark_at-name.ensures;
+      clean = record {
         large = omega (arith, c.copy_all.auto.cells, c.prepare-go.auto.cells, p.0.large);
         small = omega (arith, c.copy_all.auto.cells, c.prepare-go.auto.cells, p.0.small);
         sized = w.ordered.sized;
         unmarked = c.clear.ensures;
-      },
-    )
+      };
+    }

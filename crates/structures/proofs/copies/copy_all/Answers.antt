@@ -1,4 +1,4 @@
-use Rattle.paper.proofs.Kit.{ℕ, ◌-◌, ◌≤◌, ◌≡◌, refl, ap, ◌∙◌, arith, length}
+use Rattle.paper.proofs.Kit.{ℕ, ◌≤◌, ◌≡◌, refl, ap, ◌∙◌, arith, length}
 use Rattle.undo.proofs.Verdict.{told-refused}
 use Rattle.undo.proofs.Log.{writes-most}
 use Rattle.steps.proofs.Sequence.{alike, most, undone}
@@ -20,12 +20,6 @@ returns-then-go-ne0 c = undone _ (told-refused _ (omega arith))
 pub loop-i-init : goal.loop-i-init
 loop-i-init c = (omega arith, refl, refl, copy-first _ c.args.order.now c.args.n)
 
-pub offset_bounds-order-i : goal.offset_bounds-order-i
-offset_bounds-order-i c = omega (arith, c.requires.0.few)
-
-pub bounds-order-i : goal.bounds-order-i
-bounds-order-i c = omega (arith, c.requires.0.few)
-
 pub copied-y-requires : goal.copied-y-requires
 copied-y-requires c = c.requires.0.wide
 
@@ -37,12 +31,6 @@ put-requires c =
     let l = c.loop-i in
     let d = due_all {n = c.args.n} c.if-go-ne0.false in
     (record { fits = omega (arith, l.invariant.3.count, writes-most c.mark_at.result, d) }, c.copied-y.ensures.formed)
-
-pub overflow_add-i : goal.overflow_add-i
-overflow_add-i c = omega arith
-
-pub loop-i-smaller : goal.loop-i-smaller
-loop-i-smaller c = omega arith
 
 pub loop-i-preserved : goal.loop-i-preserved
 loop-i-preserved c =

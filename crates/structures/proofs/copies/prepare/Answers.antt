@@ -9,10 +9,13 @@ returns-then-all_new c =
     let f = c.find-f in
     let n = c.all_new.ensures c.if-all_new.true in
     let l = subst (Clears _ _) n.all f.ensures.clears in
-    (prepared-found _ _ _ l c.requires.0 c.requires.3 f.ensures n c.own-h.ensures (puts _ c.with_link.ensures c.put.ensures), l)
+    record {
+      prepares = prepared-found _ _ _ l c.requires.0 c.requires.3 f.ensures n c.own-h.ensures (puts _ c.with_link.ensures c.put.ensures);
+      clears = l;
+    }
 
 pub returns : goal.returns
 returns c =
     let t = c.take_all.ensures in
     let p = c.requires in
-    (prepared-taken _ _ _ t.1 p.0 p.3 t.0, t.1)
+    record { prepares = prepared-taken _ _ _ t.clears p.0 p.3 t.did; clears = t.clears }

@@ -8,7 +8,7 @@ pub returns : goal.returns
 unfolding erase
 returns c =
     let e = c.erase_back in
-    let w = c.walk-w.ensures in (
-      reads _ (any w.says) (most _ w.few e.ensures),
-      lists-clean c.requires.0 e.auto.0 w,
-    )
+    let w = c.walk-w.ensures in record {
+      did = reads _ (any w.says) (most _ w.few e.ensures);
+      clean = lists-clean c.requires.0 e.auto.cells w;
+    }

@@ -1,22 +1,10 @@
-use Rattle.paper.proofs.Kit.{◌-◌, ◌≤◌, arith, length}
+use Rattle.paper.proofs.Kit.{◌≤◌, arith, length}
 use Rattle.undo.proofs.Leaves.{reserving}
 use Rattle.structures.proofs.Loops.{free_more, free-end}
 use Rattle.structures.proofs.frees.none_reserved.Goals as goal
 
 pub loop-i-init : goal.loop-i-init
 loop-i-init c = (omega arith, λ s r d. d)
-
-pub offset_bounds-order-i : goal.offset_bounds-order-i
-offset_bounds-order-i c = omega arith
-
-pub bounds-order-i : goal.bounds-order-i
-bounds-order-i c = omega arith
-
-pub overflow_add-i : goal.overflow_add-i
-overflow_add-i c = omega arith
-
-pub loop-i-smaller : goal.loop-i-smaller
-loop-i-smaller c = omega arith
 
 pub loop-i-preserved : goal.loop-i-preserved
 loop-i-preserved c =

@@ -10,32 +10,14 @@ use Rattle.structures.proofs.frees.release_all.Goals as goal
 pub returns-then-n-eq0 : goal.returns-then-n-eq0
 returns-then-n-eq0 c = released-none _ _ c.if-n-eq0.true
 
-pub overflow_cast-l : goal.overflow_cast-l
-overflow_cast-l c = omega arith
-
 pub loop-left-init : goal.loop-left-init
 loop-left-init c = (omega arith, refl, refl, release-first _ _ _)
-
-pub overflow_sub-c : goal.overflow_sub-c
-overflow_sub-c c = omega arith
-
-pub offset_bounds-order-left : goal.offset_bounds-order-left
-offset_bounds-order-left c = omega arith
-
-pub bounds-order-left : goal.bounds-order-left
-bounds-order-left c = omega arith
 
 pub put-requires : goal.put-requires
 put-requires c =
     let l = c.loop-left in
     let o = c.args.order.now in
     (record { fits = omega (arith, l.invariant.3.count, writes-most (get_or o (l.left - 1) 0)) }, search rules)
-
-pub overflow_sub-left : goal.overflow_sub-left
-overflow_sub-left c = omega arith
-
-pub loop-left-smaller : goal.loop-left-smaller
-loop-left-smaller c = omega arith
 
 pub loop-left-preserved : goal.loop-left-preserved
 loop-left-preserved c =
