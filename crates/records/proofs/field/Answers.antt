@@ -1,6 +1,6 @@
 use Rattle.records.proofs.Laws.{field-regional, field-other, field-local, field-zero, field-blank}
 use Rattle.paper.specs.Record.{field}
-use Rattle.paper.proofs.Kit.{inl, inr, ◌∙◌, sym, ap, rules}
+use Rattle.paper.proofs.Kit.{inl, inr, ◌∙◌, sym, ap, rules, arith}
 use Rattle.records.proofs.field.Goals as goal
 
 pub returns-in-57 : goal.returns-in-57
@@ -17,12 +17,10 @@ returns-in-32 c =
 
 pub returns-in-65-to-90 : goal.returns-in-65-to-90
 returns-in-65-to-90 c =
-    c.only-in-65-to-90.ensures ∙ sym (field-regional _ _ c.in-65-to-90.if-class-lt65-own.false (search rules))
+    c.only-in-65-to-90.ensures ∙ sym (field-regional _ _ (search rules) (search rules))
 
 pub returns-in_default : goal.returns-in_default
-returns-in_default c =
-    field-other _ _ (inl c.if-class-lt65.true) c.in_default.in_default-own.rest.0.0.1 c.in_default.in_default-own.rest.0.1 c.in_default.in_default-own.rest.1
+returns-in_default c = field-other _ _ (inl (omega arith)) (search rules) (search rules) (search rules)
 
 pub returns-in_default-2 : goal.returns-in_default-2
-returns-in_default-2 c =
-    field-other _ _ (inr (search rules)) c.in_default.in_default-own.rest.0.0.1 c.in_default.in_default-own.rest.0.1 c.in_default.in_default-own.rest.1
+returns-in_default-2 c = field-other _ _ (inr (omega arith)) (search rules) (search rules) (search rules)

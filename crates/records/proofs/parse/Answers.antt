@@ -1,11 +1,11 @@
 use Rattle.records.proofs.Laws.{record-1, record-2, record-3, record-4, record-5, record-6, kind-none}
-use Rattle.paper.proofs.Kit.{◌∙◌, sym}
+use Rattle.paper.proofs.Kit.{◌∙◌, sym, rules}
 use Rattle.records.proofs.parse.Goals as goal
 
 pub returns-in-1 : goal.returns-in-1
 returns-in-1 c =
     simp (c.byte_at.ensures, c.pair_at.ensures) at c.region.ensures
-    ∙ sym (record-1 _ c.args.t3 _ c.requires.0 c.requires.1 c.in-1.is)
+    ∙ sym (record-1 _ c.args.symbols _ c.requires.0 c.requires.1 c.in-1.is)
 
 pub returns-in-2 : goal.returns-in-2
 returns-in-2 c =
@@ -32,5 +32,4 @@ returns-in-6 c =
 
 pub returns-in_default : goal.returns-in_default
 returns-in_default c =
-    let no = c.in_default.in_default-own.rest in
-    sym (kind-none _ _ c.requires.0 no.0.0.0.0.0.1 no.0.0.0.0.1 no.0.0.0.1 no.0.0.1 no.0.1 no.1)
+    sym (kind-none _ _ c.requires.0 (search rules) (search rules) (search rules) (search rules) (search rules) (search rules))

@@ -1,4 +1,4 @@
-use Rattle.paper.proofs.Kit.{eq-eqb, ne_eqb}
+use Rattle.paper.proofs.Kit.{eq-eqb, ne_eqb, rules}
 use Rattle.records.proofs.place_of.Goals as goal
 
 pub returns-in-0 : goal.returns-in-0
@@ -14,8 +14,8 @@ returns-else-kind-eq2 c =
 
 pub returns-then-kind-eq2-2 : goal.returns-then-kind-eq2-2
 returns-then-kind-eq2-2 c =
-    simp (ne_eqb _ _ c.in_default.in_default-own.rest.0.1, ne_eqb _ _ c.in_default.in_default-own.rest.1, eq-eqb _ _ c.if-kind-eq2-2.true)
+    simp (ne_eqb c.args.i 0 (search rules), ne_eqb c.args.i 1 (search rules), eq-eqb _ _ c.if-kind-eq2-2.true)
 
 pub returns-else-kind-eq2-2 : goal.returns-else-kind-eq2-2
 returns-else-kind-eq2-2 c =
-    simp (ne_eqb _ _ c.in_default.in_default-own.rest.0.1, ne_eqb _ _ c.in_default.in_default-own.rest.1, ne_eqb _ _ c.if-kind-eq2-2.false)
+    simp (ne_eqb c.args.i 0 (search rules), ne_eqb c.args.i 1 (search rules), ne_eqb _ _ c.if-kind-eq2-2.false)

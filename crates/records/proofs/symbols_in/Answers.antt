@@ -1,4 +1,4 @@
-use Rattle.paper.proofs.Kit.{ne_eqb}
+use Rattle.paper.proofs.Kit.{ne_eqb, rules}
 use Rattle.records.proofs.symbols_in.Goals as goal
 
 pub returns-in-1 : goal.returns-in-1
@@ -12,4 +12,4 @@ returns-in-3 c = simp c.in-3.is
 
 pub returns-in_default : goal.returns-in_default
 returns-in_default c =
-    simp (ne_eqb _ _ c.in_default.in_default-own.rest.0.0.1, ne_eqb _ _ c.in_default.in_default-own.rest.0.1, ne_eqb _ _ c.in_default.in_default-own.rest.1)
+    simp (ne_eqb c.args.kind 1 (search rules), ne_eqb c.args.kind 2 (search rules), ne_eqb c.args.kind 3 (search rules))
