@@ -1,7 +1,7 @@
 -- The contracts of the loader: what code has done that follows a block over the book, and its verdict `go`.
 use Rattle.std.specs.Prelude.{ℕ, Bool, List}
 use denote.Triple.Both.{Both}
-use Rattle.std.specs.Borrow.{Bor}
+use Rattle.std.specs.Borrow.{MutBor}
 use Rattle.paper.specs.declared.Fault.{Fault}
 use Rattle.paper.specs.Cell.{Region}
 use Rattle.paper.specs.Deck.{Book, Load}
@@ -36,10 +36,10 @@ Booked M h go h' r v = Follows loading Always 0 M h (told_fault go) h' (told_fau
 
 -- lent cells (or locals) and names, before and after
 abbrev pub LentCells : Type 0
-LentCells = Both (Bor (List ℕ)) (Bor (List ℕ))
+LentCells = Both (MutBor (List ℕ)) (MutBor (List ℕ))
 
 abbrev pub LentNames : Type 0
-LentNames = Both (Bor (List Bool)) (Bor (List Bool))
+LentNames = Both (MutBor (List Bool)) (MutBor (List Bool))
 
 -- on the cells, whatever the regions, the notes, the locals and the names are
 abbrev pub OnCells : {A : Type 0} → Load A → LentCells → ℕ → ℕ → A → Type 0

@@ -1,4 +1,4 @@
-use Rattle.paper.proofs.Kit.{arith}
+use Rattle.paper.proofs.Kit.{arith, rules}
 use Rattle.book.proofs.Verdict.{told-number, told-other}
 use Rattle.book.proofs.fault.Goals as goal
 
@@ -27,4 +27,4 @@ pub returns-in-9 : goal.returns-in-9
 returns-in-9 c = told-number c.args.go 9 (omega arith) c.in-9.is
 
 pub returns-in_default : goal.returns-in_default
-returns-in_default c = told-other c.args.go (omega arith) c.in_default.in_default-own.rest
+returns-in_default c = told-other c.args.go (omega arith) (search rules)

@@ -5,5 +5,4 @@ use Rattle.book.proofs.fields.is_missing.Goals as goal
 
 pub returns-in-Regional : goal.returns-in-Regional
 returns-in-Regional c =
-    let f = c.f-1.given in
-    ap (λ b. eqb f.0.0 letter_j && not b) c.is_listed.ensures ∙ sym (ap is_missing f.1)
+    ap (λ b. eqb c.in-Regional.b letter_j && not b) c.is_listed.ensures ∙ sym (ap is_missing c.in-Regional.is)

@@ -1,4 +1,4 @@
-use Rattle.paper.proofs.Kit.{rules, arith, ◌-◌, refl}
+use Rattle.paper.proofs.Kit.{rules, arith, refl}
 use Rattle.book.proofs.KeptLaws.{words-on, words-end}
 use Rattle.book.proofs.locals.all_words.Goals as goal
 
