@@ -1,6 +1,6 @@
 -- The outcome of a load in numbers.
-use Rattle.paper.proofs.Kit.{clash, ℕ, zero, suc, ◌≤◌, Bool, true, false, cond, ◌&&◌, not, List, [], ◌∷◌, ◌≡◌, refl, ap, sym, ◌∙◌, Option, none, some}
-use Rattle.paper.proofs.Kit.{leb-true, not-true, not-false, leb, length, take, replicate, length-replicate, length-take-le}
+use Rattle.paper.proofs.Kit.{clash, ℕ, zero, suc, ◌≤◌, Bool, true, false, cond, ◌&&◌, List, [], ◌∷◌, ◌≡◌, refl, ap, sym, ◌∙◌, Option, none, some}
+use Rattle.paper.proofs.Kit.{leb-true, leb, length, take, replicate, length-replicate, length-take-le}
 use Rattle.paper.specs.declared.Fault.{Fault}
 use Rattle.paper.specs.declared.LoadAnswer.TheVariants.{Loaded as AnswerLoaded, BadSize, Broken}
 use Rattle.paper.specs.Limits.{smallest_n, largest_n}
@@ -19,8 +19,8 @@ use Rattle.deck.specs.declared.Loaded.{Loaded}
 use Rattle.deck.specs.Load.{table_from, outcome_of, Ends, Loads}
 
 -- the test of N
-pub in-range : (n : ℕ) (b : Bool) → b ≡ size_fits n → not b ≡ false → n ≤ largest_n
-in-range n b e h = leb-true n largest_n (second (leb smallest_n n) (leb n largest_n) (sym e ∙ not-false b h))
+pub in-range : (n : ℕ) (b : Bool) → b ≡ size_fits n → b ≡ true → n ≤ largest_n
+in-range n b e h = leb-true n largest_n (second (leb smallest_n n) (leb n largest_n) (sym e ∙ h))
   where
     second : (s t : Bool) → (s && t) ≡ true → t ≡ true
     second true t e = e
@@ -67,15 +67,15 @@ all-zero zero = refl
 all-zero (suc n) = ap (λ (l : List ℕ). 0 ∷ l) (all-zero n)
 
 module _ (deck s : List ℕ) (b : Bool) (size : b ≡ size_fits (length s)) where
-  pub loads-none : {r : Regions} → not b ≡ true → r ≡ no_regions → Loads deck s s (record { answer = BadSize; regions = r })
+  pub loads-none : {r : Regions} → b ≡ false → r ≡ no_regions → Loads deck s s (record { answer = BadSize; regions = r })
   unfolding table_from
   loads-none e q =
-      loads-as deck s _ false (too_few deck s (sym size ∙ not-true b e)) (sym size ∙ not-true b e) refl (ap regions_of q ∙ none-held) q
+      loads-as deck s _ false (too_few deck s (sym size ∙ e)) (sym size ∙ e) refl (ap regions_of q ∙ none-held) q
       refl
 
-  module _ (e : not b ≡ false) (d : Ended) {t : List ℕ} (h : Ends deck s t d) where
+  module _ (e : b ≡ true) (d : Ended) {t : List ℕ} (h : Ends deck s t d) where
     fits : size_fits (length s) ≡ true
-    fits = sym size ∙ not-false b e
+    fits = sym size ∙ e
 
     comes : (j : Option Fault) → told_fault d.go ≡ j → load deck (unpacked s) ≡ outcome_of (length s) j d.at d.regions t
     comes j q = enough deck s fits ∙ h.is ∙ ap (λ (i : Option Fault). outcome_of (length s) i d.at d.regions t) q

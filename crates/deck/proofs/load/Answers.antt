@@ -27,4 +27,4 @@ returns-then-r-eq0 c =
 pub returns : goal.returns
 returns c =
     loads-refused _ _ _ c.size_fits.ensures c.if-not-size_fits.false _ c.load_records-r.ensures _ c.fault.ensures
-    c.load_records-r.auto.names c.zero.ensures c.none-2.ensures
+    c.load_records-r.auto.cells c.zero.ensures c.none-2.ensures

@@ -1,27 +1,9 @@
 use Rattle.deck.proofs.LoopLaws.{Leaves, part_at, to_end, stands-first, written-more, written_all, leaves-end, leaves-symbol, leaves-refused}
 use Rattle.deck.proofs.LoopLaws.{leaves-as, at-hand, reads_on, further, goes-round, ends}
 use Rattle.records.proofs.Laws.{few-symbols}
-use Rattle.paper.proofs.Kit.{length, length-drop, ⊎_elim, refl, ap, sym, ◌∙◌, ◌-◌, arith, rules}
+use Rattle.paper.proofs.Kit.{length, length-drop, refl, ap, sym, ◌∙◌, arith, rules}
 use Rattle.deck.proofs.load_records.Goals as goal
-
--- the three ways out of the loop
-leaves : (c : tie.Left-deck invariant-loop decreases-loop invariant-deck decreases-deck)
-    → let x = c.deck-test in
-    let d = c.before in
-    let b = d.before.before.before.before.before in
-    let a = b.before.before.before.before.before.before.before.before in
-    Leaves a.args.deck.now (length b.begin.new.0) x.cells x.names d.deck.regions x.go d.deck.new x.from d.deck.at
-leaves c =
-    let d = c.before in
-    let a = d.before.before.before.before.before.before.before.before.before.before.before.before.before in
-    let v = d.deck.invariant in
-    let part = to_end a.args.deck.now d.deck.at in
-    ⊎_elim (λ w. leaves-as w.1 w.2 w.4 w.5 (leaves-end v w.0.left))
-    (⊎_elim
-    (λ w. leaves-as w.9 w.10 w.12 w.13
-    (leaves-symbol v w.0.taken _ part w.4.i _ (omega (arith, w.5.taken, w.3.ensures)) w.6.ensures w.8.given.1))
-    (λ w. leaves-as w.15 w.16 w.18 w.19
-    (leaves-refused v w.0.taken _ part w.9.ensures w.14.taken w.9.kept.0 w.9.kept.1.0))) c.deck-test.branch
+use Rattle.deck.proofs.load_records.Goals.{else-deck-test, then-deck-test+then-loop-i-test+in_default, then-deck-test+else-loop-i-test+then-go-ne0}
 
 pub deck-init : goal.deck-init
 deck-init c =
@@ -46,23 +28,21 @@ bounds-symbols-i c =
     omega (arith, c.symbols_at-n.ensures, few-symbols (part_at c.args.deck.now c.deck.at))
 
 pub loop-i-preserved : goal.loop-i-preserved
-loop-i-preserved c =
-    (
-      search rules,
-      search rules,
-      written-more _ _ c.loop-i.symbols c.loop-i.i _ _
-          (omega (arith, c.symbols_at-n.ensures, few-symbols (part_at c.args.deck.now c.deck.at), c.loop-i.invariant.1))
-          c.loop-i.invariant.2 c.symbol.ensures c.in-Symbol.is,
-    )
+loop-i-preserved c = (
+  search rules,
+  search rules,
+  written-more _ _ c.loop-i.symbols c.loop-i.i _ _
+      (omega (arith, c.symbols_at-n.ensures, few-symbols (part_at c.args.deck.now c.deck.at), c.loop-i.invariant.1))
+      c.loop-i.invariant.2 c.symbol.ensures c.in-Symbol.is,
+)
 
 pub load_one-t-requires : goal.load_one-t-requires
-load_one-t-requires c =
-    (
-      c.deck.invariant.made,
-      record { few = omega (arith, c.deck.invariant.cells, c.begin-notes.auto.cells, c.requires.few); marks = c.deck.invariant.marks ∙ sym c.deck.invariant.cells },
-      refl,
-      written_all _ _ _ c.loop-i.i (omega (arith, c.symbols_at-n.ensures)) c.loop-i.invariant.2,
-    )
+load_one-t-requires c = (
+  c.deck.invariant.made,
+  record { few = omega (arith, c.deck.invariant.cells, c.begin-notes.auto.cells, c.requires.few); marks = c.deck.invariant.marks ∙ sym c.deck.invariant.cells },
+  refl,
+  written_all _ _ _ c.loop-i.i (omega (arith, c.symbols_at-n.ensures)) c.loop-i.invariant.2,
+)
 
 pub overflow_add-at : goal.overflow_add-at
 overflow_add-at c =
@@ -81,15 +61,21 @@ deck-preserved c =
     goes-round c.deck.invariant c.deck-test.true _ (to_end c.args.deck.now c.deck.at) c.load_one-t.ensures (omega arith) _
     c.size_of-at.ensures c.load_one-t.auto.cells c.load_one-t.auto.names
 
-pub shape_of-cells : goal.shape_of-cells
-shape_of-cells c =
-    (leaves «place After-slice_known4»).cells ∙ c.begin-notes.auto.cells
-
-pub shape_of-names : goal.shape_of-names
-shape_of-names c =
-    (leaves «place After-slice_known4»).marks ∙ c.begin-notes.auto.cells ∙ sym c.requires.marks
-
 pub returns : goal.returns
 returns c =
-    ends c.args.deck.now c.args.cells.now _ _ _ _ c.begin-notes.auto.cells (leaves «place After-slice_known4») c.refuse_if-go.ensures
-    c.can_start.ensures c.refuse_if.ensures c.offset.ensures c.deck.invariant.made.made
+    let deck = c.args.deck.now in
+    let v = c.deck.invariant in
+    let part = to_end deck c.deck.at in
+    -- the three ways out of the loop
+    let out : Leaves deck (length c.begin-notes.new.cells) c.deck-test.cells c.deck-test.names c.deck.regions c.deck-test.go c.deck.last c.deck-test.from c.deck.at =
+    elim c.deck-test.branch [
+      | else-deck-test w ↦ leaves-as w.cells-is w.names-is w.go-is w.from-is (leaves-end v w.deck-test.false)
+      | then-deck-test+then-loop-i-test+in_default w ↦
+          leaves-as w.cells-is w.names-is w.go-is w.from-is
+          (leaves-symbol v w.deck-test.true _ part w.loop-i.i _ (omega (arith, w.loop-i-test.true, w.symbols_at-n.ensures)) w.symbol.ensures w.in_default.is)
+      | then-deck-test+else-loop-i-test+then-go-ne0 w ↦
+          leaves-as w.cells-is w.names-is w.go-is w.from-is
+          (leaves-refused v w.deck-test.true _ part w.load_one-t.ensures w.if-go-ne0.true w.load_one-t.auto.cells w.load_one-t.auto.names)
+    ] in
+    ends deck c.args.cells.now _ _ _ _ c.begin-notes.auto.cells out c.refuse_if-go.ensures c.can_start.ensures c.refuse_if.ensures
+    c.offset.ensures c.deck.invariant.made.made

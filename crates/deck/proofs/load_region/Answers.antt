@@ -6,16 +6,8 @@ use Rattle.book.proofs.Lines.{part}
 use Rattle.book.proofs.Verdict.{told-fine, told-fault}
 use Rattle.regions.specs.Table.{regions_of}
 use Rattle.paper.specs.Deck.{load_region}
-use Rattle.paper.proofs.Kit.{ltb, length, ltb-false, or_assoc, ◌≡◌, refl, ap, sym, subst, ◌∙◌, ◌+◌, arith}
+use Rattle.paper.proofs.Kit.{ltb, length, ltb-false, or_assoc, ◌≡◌, refl, ap, sym, subst, ◌∙◌, ◌+◌, arith, rules}
 use Rattle.deck.proofs.load_region.Goals as goal
-
--- the table's arrays have 23 places
-sized : (c : tie.After-slice-known4)
-    → let r = c.before.before.before.before.before.before.before.before.before.before.before.before.before.before.before.args.regions in
-    (length r.letters ≡ 23) × (length r.counts ≡ 23)
-sized c =
-    let g = c.before.before.before.before.before.before.before.before.before.before.before.before.before.before.before.well-formed.1.1.1.0 in
-    (search rules, search rules)
 
 pub returns-then-letter_taken-notes : goal.returns-then-letter_taken-notes
 unfolding load_region
@@ -33,7 +25,7 @@ returns-then-letter_taken-notes c =
 pub returns : goal.returns
 unfolding load_region
 returns c =
-    let z = sized c in
+    let z : (length c.args.regions.letters ≡ 23) × (length c.args.regions.counts ≡ 23) = (search rules, search rules) in
     let no = none-holds c.letter_taken.result c.args.notes.words _ c.if-letter_taken-notes.false in
     let new = sym c.letter_taken.ensures ∙ no.0 in
     let fits = ltb-false (length c.args.cells.now) (c.top.result + c.args.n) no.2 in

@@ -1,7 +1,7 @@
 use Rattle.deck.proofs.FreshLaws.{set_below, laid}
 use Rattle.cells.specs.Pack.{Packs}
 use Rattle.paper.specs.Deck.{fresh_cell}
-use Rattle.paper.proofs.Kit.{length, arith, ◌-◌, rules}
+use Rattle.paper.proofs.Kit.{length, arith, rules}
 use Rattle.deck.proofs.fresh.lay.Goals as goal
 
 pub loop-c-init : goal.loop-c-init

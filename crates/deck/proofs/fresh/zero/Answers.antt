@@ -1,5 +1,5 @@
 use Rattle.deck.proofs.FreshLaws.{set_below, all_alike}
-use Rattle.paper.proofs.Kit.{◌≡◌, refl, arith, ◌-◌, rules}
+use Rattle.paper.proofs.Kit.{◌≡◌, refl, arith, rules}
 use Rattle.deck.proofs.fresh.zero.Goals as goal
 
 pub loop-i-init : goal.loop-i-init
