@@ -1,4 +1,4 @@
-use Rattle.paper.proofs.Kit.{◌-◌, ◌≡◌, refl, ap, ◌∙◌, arith, get_or, set}
+use Rattle.paper.proofs.Kit.{◌≡◌, refl, ap, ◌∙◌, arith, get_or, set}
 use Rattle.plain.proofs.Walked.{up_to, one_more, all-met}
 use Rattle.plain.proofs.in_order.Goals as goal
 
