@@ -4,11 +4,11 @@ use Rattle.paper.proofs.Kit.{sym, ◌∙◌, arith}
 use Rattle.cycle.proofs.execute.Goals as goal
 
 pub returns-then-go-ne0 : goal.returns-then-go-ne0
-returns-then-go-ne0 c = (
-  stopped _ c.top_of-top.ensures.0 c.past_j1-g.ensures _ c.touch-t.ensures _ c.not_own-go.ensures _ _ _ _ c.requires.within (omega arith)
-      (omega arith),
-  clean-as c.past_j1-g.auto.cells c.requires.clean,
-)
+returns-then-go-ne0 c = record {
+  steps = stopped _ c.top_of-top.ensures.0 c.past_j1-g.ensures _ c.touch-t.ensures _ c.not_own-go.ensures _ _ _ _ c.requires.within (omega arith)
+      (omega arith);
+  clean = clean-as c.past_j1-g.auto.cells c.requires.clean;
+}
 
 pub perform-p-requires : goal.perform-p-requires
 perform-p-requires c = (
@@ -32,15 +32,15 @@ perform-p-requires c = (
 )
 
 pub returns-then-is_process : goal.returns-then-is_process
-returns-then-is_process c = (
-  performed _ c.top_of-top.ensures.0 c.past_j1-g.ensures _ c.touch-t.ensures _ c.not_own-go.ensures _ _ (omega (arith, c.past_j1-g.auto.cells))
-      c.if-go-ne0.false (sym c.is_process.ensures ∙ c.if-is_process.true) c.process_number-j.ensures.0 c.perform-p.ensures.steps,
-  c.perform-p.ensures.clean,
-)
+returns-then-is_process c = record {
+  steps = performed _ c.top_of-top.ensures.0 c.past_j1-g.ensures _ c.touch-t.ensures _ c.not_own-go.ensures _ _ (omega (arith, c.past_j1-g.auto.cells))
+      c.if-go-ne0.false (sym c.is_process.ensures ∙ c.if-is_process.true) c.process_number-j.ensures.0 c.perform-p.ensures.steps;
+  clean = c.perform-p.ensures.clean;
+}
 
 pub returns : goal.returns
-returns c = (
-  descended _ c.top_of-top.ensures.0 c.past_j1-g.ensures _ c.touch-t.ensures _ c.not_own-go.ensures _ _ _ c.requires.within (omega arith)
-      c.if-go-ne0.false (sym c.is_process.ensures ∙ c.if-is_process.false) c.descend-down.ensures,
-  clean-as (c.descend-down.auto.cells ∙ c.past_j1-g.auto.cells) c.requires.clean,
-)
+returns c = record {
+  steps = descended _ c.top_of-top.ensures.0 c.past_j1-g.ensures _ c.touch-t.ensures _ c.not_own-go.ensures _ _ _ c.requires.within (omega arith)
+      c.if-go-ne0.false (sym c.is_process.ensures ∙ c.if-is_process.false) c.descend-down.ensures;
+  clean = clean-as (c.descend-down.auto.cells ∙ c.past_j1-g.auto.cells) c.requires.clean;
+}

@@ -4,8 +4,10 @@ use Rattle.paper.proofs.Kit.{arith}
 use Rattle.cycle.proofs.interpret.Goals as goal
 
 pub returns-then-f-ne0 : goal.returns-then-f-ne0
-returns-then-f-ne0 c =
-    (not-fetched _ _ c.top_of-top.ensures.0 _ c.fetch-f.ensures _ _ _ c.requires.within (omega arith), c.requires.clean)
+returns-then-f-ne0 c = record {
+  steps = not-fetched _ _ c.top_of-top.ensures.0 _ c.fetch-f.ensures _ _ _ c.requires.within (omega arith);
+  clean = c.requires.clean;
+}
 
 pub advance-requires : goal.advance-requires
 advance-requires c =
@@ -15,7 +17,7 @@ advance-requires c =
     }
 
 pub returns : goal.returns
-returns c = (
-  interpreted _ _ c.top_of-top.ensures.0 _ c.fetch-f.ensures c.if-f-ne0.false c.operate-r.ensures.steps c.advance.ensures,
-  clean-as c.advance.auto.cells c.operate-r.ensures.clean,
-)
+returns c = record {
+  steps = interpreted _ _ c.top_of-top.ensures.0 _ c.fetch-f.ensures c.if-f-ne0.false c.operate-r.ensures.steps c.advance.ensures;
+  clean = clean-as c.advance.auto.cells c.operate-r.ensures.clean;
+}

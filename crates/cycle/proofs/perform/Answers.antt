@@ -1,6 +1,6 @@
 use Rattle.cycle.proofs.PartLaws.{printed-part, part-quiet, from-none}
 use Rattle.structures.proofs.Whole.{clean-as}
-use Rattle.paper.proofs.Kit.{⊎_elim, arith}
+use Rattle.paper.proofs.Kit.{arith, rules}
 use Rattle.cycle.proofs.perform.Goals as goal
 
 pub on_lines-requires : goal.on_lines-requires
@@ -13,23 +13,23 @@ on_lines-requires c = (
 )
 
 pub returns-then-j-le153 : goal.returns-then-j-le153
-returns-then-j-le153 c = (
-  printed-part _ (omega arith) c.on_lines.ensures,
-  clean-as c.on_lines.auto.cells c.requires.0.clean,
-)
+returns-then-j-le153 c = record {
+  steps = printed-part _ (omega arith) c.on_lines.ensures;
+  clean = clean-as c.on_lines.auto.cells c.requires.0.clean;
+}
 
 pub by_family-go-requires : goal.by_family-go-requires
 by_family-go-requires c = (
   c.requires.0.clean,
   record { fits = c.requires.0.room.fits; ends = c.top_of.ensures.1 },
   c.requires.1,
-  ⊎_elim (λ w. λ e. omega (arith, w.1.left)) (λ w. λ e. omega (arith, w.left)) c.if-j-ge152.branch,
-  ⊎_elim (λ w. λ e. omega (arith, w.1.left)) (λ w. λ e. omega (arith, w.left)) c.if-j-ge152.branch,
+  search rules,
+  search rules,
   c.requires.2,
 )
 
 pub returns : goal.returns
-returns c = (
-  part-quiet _ _ _ _ c.requires.0.within c.top_of.ensures.0 (from-none c.by_family-go.ensures.did),
-  c.by_family-go.ensures.clean,
-)
+returns c = record {
+  steps = part-quiet _ _ _ _ c.requires.0.within c.top_of.ensures.0 (from-none c.by_family-go.ensures.did);
+  clean = c.by_family-go.ensures.clean;
+}
