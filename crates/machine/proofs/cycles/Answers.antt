@@ -8,7 +8,7 @@ use Rattle.machine.proofs.cycles.Goals as goal
 
 pub loop-budget-init : goal.loop-budget-init
 loop-budget-init c =
-    let a = c.args.cells in (
+    (
       c.requires.0,
       c.requires.1,
       omega arith,
@@ -50,20 +50,20 @@ loop-budget-preserved c =
     let d = c.cycle-c.auto in
     let more : c.loop-budget.done < c.args.budget = omega (arith, l.2, c.if-done-budget.false) in
     let (q, up, within, past) = subst
-    (λ r. Came c.requires.2.regions c.loop-budget.cells c.loop-budget.out c.loop-budget.at c.cycle-c.new.cells c.cycle-c.new.order.1.1.1.0 r)
+    (λ r. Came c.requires.2.regions c.loop-budget.cells c.loop-budget.out c.loop-budget.at c.cycle-c.new.cells c.cycle-c.new.out r)
     c.in-Progress.is (c.cycle-c.ensures c.requires.2.regions c.requires.2.tells).came in
     let kept = c.cycle-c.ensures c.requires.2.regions c.requires.2.tells in (
       kept.ready,
       kept.formed l.1,
       omega (arith, l.2, c.if-done-budget.false),
-      omega (arith, within, d.1.1.1.1.1.0),
-      d.1.1.1.1.1.0 ∙ l.4,
-      d.0 ∙ l.5,
-      d.1.0 ∙ l.6,
+      omega (arith, within, d.out),
+      d.out ∙ l.4,
+      d.cells ∙ l.5,
+      d.log ∙ l.6,
       past ∙ past-later c.loop-budget.at _ c.loop-budget.out c.args.out.now up l.7,
       λ rs w.
           let (goes, up, within, past) = subst
-          (λ r. Came rs c.loop-budget.cells c.loop-budget.out c.loop-budget.at c.cycle-c.new.cells c.cycle-c.new.order.1.1.1.0 r)
+          (λ r. Came rs c.loop-budget.cells c.loop-budget.out c.loop-budget.at c.cycle-c.new.cells c.cycle-c.new.out r)
           c.in-Progress.is (c.cycle-c.ensures rs w).came in
           l.8 rs w ∙ run-goes (state_at rs c.loop-budget.cells c.loop-budget.out c.loop-budget.at) c.loop-budget.done c.args.budget more
           (sym c.finished.ensures ∙ c.loop-budget-test.true) _ goes,
@@ -75,10 +75,10 @@ returns-in-Refused c =
     λ rs w.
     let l = c.loop-budget.invariant in
     let t = state_at rs c.loop-budget.cells c.loop-budget.out c.loop-budget.at in
-    let (q, s, o) = subst (λ r. Came rs c.loop-budget.cells c.loop-budget.out c.loop-budget.at c.cycle-c.new.cells c.cycle-c.new.order.1.1.1.0 r)
+    let (q, s, o) = subst (λ r. Came rs c.loop-budget.cells c.loop-budget.out c.loop-budget.at c.cycle-c.new.cells c.cycle-c.new.out r)
     c.in-Refused.is (c.cycle-c.ensures rs w).came in
     let more : c.loop-budget.done < c.args.budget = omega (arith, l.2, c.if-done-budget.false) in
-    ap (λ (r : Ran). numbers r c.cycle-c.new.cells c.cycle-c.new.order.1.1.1.0) c.came_to-in-Refused.ensures
+    ap (λ (r : Ran). numbers r c.cycle-c.new.cells c.cycle-c.new.out) c.came_to-in-Refused.ensures
     ∙ closes rs c.args.budget _ c.args.cells.now c.args.out.now c.loop-budget.cells c.loop-budget.out _ s o l.1 l.3 l.7 (l.8 rs w)
     (run-stops t c.loop-budget.done c.args.budget more (sym c.finished.ensures ∙ c.loop-budget-test.true) _ q)
 

@@ -1,29 +1,19 @@
 use Rattle.paper.proofs.Kit.{ℕ, ◌+◌, ◌*◌, refl, ap, subst, ◌∙◌, arith, length, length-replicate}
 use Rattle.paper.specs.Limits.{largest_n}
 use Rattle.sound.proofs.SoundLaws.{passed-formed, passed-end, size-range}
-use Rattle.sound.specs.Asked.{Asks, Passed}
 use Rattle.machine.specs.declared.Ran.{Ran}
 use Rattle.machine.specs.Numbers.{numbers}
 use Rattle.machine.proofs.RunLaws.{run-unfit, run-over, run-cycles}
 use Rattle.machine.proofs.run.Goals as goal
 
--- the store passed
-abbrev start : tie.After-enum-told → tie.Start
-start c = c.before.before.before.before.before.before
-
-passed : (c : tie.After-enum-told) → Passed (start c).args.regions (start c).args.cells.now c.enum_told.given.0.0
-passed c =
-    let a = (start c).args in
-    subst (λ q. Asks a.regions a.cells.now q) c.enum_told.given.1 c.before.before.asks.ensures
-
 pub returns-then-budget-gt-LARGEST_BUDGET : goal.returns-then-budget-gt-LARGEST_BUDGET
 returns-then-budget-gt-LARGEST_BUDGET c =
     ap (λ (r : Ran). numbers r c.args.cells.now c.args.out.now) c.came_to-then-budget-gt-LARGEST_BUDGET.ensures
-    ∙ run-over _ _ _ _ (passed («place After-enum_told»)).size c.if-budget-gt-LARGEST_BUDGET.true
+    ∙ run-over _ _ _ _ c.in-Top.ensures.size c.if-budget-gt-LARGEST_BUDGET.true
 
 pub cycles-requires : goal.cycles-requires
 cycles-requires c =
-    let d = passed («place After-enum_told») in
+    let d = c.in-Top.ensures in
     let n = size-range (length c.args.cells.now) d.size in (
       record {
         room = omega (arith, n.1, length-replicate {A = ℕ} (2 * (2 * largest_n + 41) + 5) 1);
@@ -47,9 +37,9 @@ cycles-requires c =
 pub returns-in-Not : goal.returns-in-Not
 returns-in-Not c =
     ap (λ (r : Ran). numbers r c.args.cells.now c.args.out.now) c.came_to.ensures
-    ∙ run-unfit _ _ _ _ _ (subst (λ q. Asks c.args.regions c.args.cells.now q) c.in-Not.is c.asks-q.ensures)
+    ∙ run-unfit _ _ _ _ _ c.in-Not.ensures
 
 pub returns-else-budget-gt-LARGEST_BUDGET : goal.returns-else-budget-gt-LARGEST_BUDGET
 returns-else-budget-gt-LARGEST_BUDGET c =
-    let d = passed («place After-enum_told») in
+    let d = c.in-Top.ensures in
     c.cycles.ensures _ c.table-table.ensures ∙ run-cycles _ _ _ _ d.size c.if-budget-gt-LARGEST_BUDGET.false d.sound
