@@ -1,5 +1,4 @@
-use Rattle.paper.proofs.Kit.{ap, ◌∙◌, ⊎_elim, arith, tag_of}
-use Rattle.paper.specs.contracts.LoadAnswer.{the_type}
+use Rattle.paper.proofs.Kit.{ap, ◌∙◌}
 use Rattle.desk.specs.Page.{printed}
 use Rattle.desk.proofs.PageLaws.{deck-counted, prints-run, prints-answer}
 use Rattle.desk.proofs.replay.Goals as goal
@@ -17,4 +16,4 @@ returns-in_default c =
     let read = c.deck_size-n.ensures in
     c.not_loaded.ensures
     ∙ ap printed (prints-answer _ read c.load-l.ensures
-    (λ e. ⊎_elim (λ p. omega (arith, p, ap (tag_of the_type) e)) (λ p. omega (arith, p, ap (tag_of the_type) e)) c.in_default.keys2))
+    c.in_default.not-Loaded)
