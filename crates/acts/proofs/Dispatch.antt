@@ -6,7 +6,6 @@ use Rattle.paper.specs.declared.Refusal.TheVariants.{NotListed}
 use Rattle.paper.specs.Cell.{State, J}
 use Rattle.paper.specs.Act.{Act, refuse_if}
 use Rattle.paper.specs.Process.{Next, then as and_then, goes_on, then_on, Entry, one, ten, listed, perform}
-use Rattle.cells.specs.Bridge.{Rest}
 use Rattle.steps.specs.Follows.{Follows, World}
 use Rattle.steps.specs.Follows as steps
 use Rattle.steps.proofs.Rest as last_arm

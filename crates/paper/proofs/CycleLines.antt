@@ -8,7 +8,6 @@ use Rattle.paper.specs.Act.{Act, Refusal, sized, symbol_in, symbol_in_that, desi
 use Rattle.paper.specs.Process.{perform}
 use Rattle.paper.specs.Cycle.{Control, goes_on, moved, Next, then, executing, after, descend, finish, performs, execute, executes, copy_to, put_in, go_to}
 use Rattle.paper.specs.Cycle.{branch, operate, to_link, advance, obey, direct, interpret, link_of, ascend, work, count, cycle}
-use Rattle.paper.specs.Sound.{sound}
 use Rattle.paper.proofs.Safe.{After, Safe, safe-refuse_if}
 use Rattle.paper.proofs.SoundStore.{Frame}
 use Rattle.paper.proofs.ActLaws.{Ok, own-H1, s-own, s-touch, s-not_own, s-designate}

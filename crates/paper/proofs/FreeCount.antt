@@ -5,7 +5,7 @@ use Rattle.paper.proofs.Kit.{eqb-true, ne_eqb, not-true}
 use Rattle.paper.specs.Cell.{zeros, Cell, free, word, term, process, is_free}
 use Rattle.paper.specs.Walk.{member}
 use Rattle.paper.specs.Sound.{free_count, free_list}
-use Rattle.paper.proofs.SoundStore.{at, Chain, ends, on, never, or-false, and-true, set_at}
+use Rattle.paper.proofs.SoundStore.{Chain, ends, on, never, or-false, and-true, set_at}
 use Rattle.paper.proofs.ActLaws.{All}
 use Rattle.paper.proofs.WalkLaws.{Distinct}
 

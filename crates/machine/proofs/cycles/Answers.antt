@@ -1,4 +1,4 @@
-use Rattle.paper.proofs.Kit.{◌-◌, ◌<◌, ◌≡◌, refl, ap, subst, ◌∙◌, sym, arith, not-true, not-false}
+use Rattle.paper.proofs.Kit.{◌-◌, ◌<◌, ◌≡◌, refl, ap, subst, ◌∙◌, sym, arith}
 use Rattle.paper.specs.Run.{is_finished, run_from}
 use Rattle.cycle.specs.Turns.{state_at, Came}
 use Rattle.machine.specs.declared.Ran.{Ran}
@@ -7,18 +7,17 @@ use Rattle.machine.proofs.RunLaws.{run-finishes, run-spent, run-stops, run-goes,
 use Rattle.machine.proofs.cycles.Goals as goal
 
 pub loop-budget-init : goal.loop-budget-init
-loop-budget-init c =
-    (
-      c.requires.0,
-      c.requires.1,
-      omega arith,
-      omega arith,
-      refl,
-      refl,
-      refl,
-      refl,
-      λ rs w. begins rs (c.args.cells.now) (c.args.out.now) (c.args.budget),
-    )
+loop-budget-init c = (
+  c.requires.0,
+  c.requires.1,
+  omega arith,
+  omega arith,
+  refl,
+  refl,
+  refl,
+  refl,
+  λ rs w. begins rs (c.args.cells.now) (c.args.out.now) (c.args.budget),
+)
 
 pub returns-then-done-budget : goal.returns-then-done-budget
 unfolding is_finished

@@ -1,4 +1,4 @@
-use Rattle.paper.proofs.Kit.{ℕ, ◌+◌, ◌*◌, refl, ap, subst, ◌∙◌, arith, length, length-replicate}
+use Rattle.paper.proofs.Kit.{ℕ, ◌+◌, ◌*◌, refl, ap, ◌∙◌, arith, length, length-replicate}
 use Rattle.paper.specs.Limits.{largest_n}
 use Rattle.sound.proofs.SoundLaws.{passed-formed, passed-end, size-range}
 use Rattle.machine.specs.declared.Ran.{Ran}

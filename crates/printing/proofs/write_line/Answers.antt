@@ -1,4 +1,4 @@
-use Rattle.paper.proofs.Kit.{◌+◌, ◌-◌, ◌≡◌, refl, ap, ◌∙◌, arith, get_or, length-set, paste, paste-zero, rules}
+use Rattle.paper.proofs.Kit.{◌+◌, ◌≡◌, refl, ap, ◌∙◌, arith, get_or, length-set, paste, paste-zero, rules}
 use Rattle.printing.proofs.TextLaws.{paste_more}
 use Rattle.printing.proofs.write_line.Goals as goal
 

@@ -1,4 +1,4 @@
-use Rattle.paper.proofs.Kit.{◌-◌, refl, ◌∙◌, rules}
+use Rattle.paper.proofs.Kit.{refl, ◌∙◌, rules}
 use Rattle.regions.specs.Lent.{rows_of}
 use Rattle.regions.proofs.LentLaws.{row_here, row_more, row-none}
 use Rattle.regions.proofs.in_rows.Goals as goal

@@ -1,6 +1,5 @@
 use Rattle.paper.proofs.Kit.{sym, ◌∙◌, arith, length}
 use Rattle.sound.proofs.SoundLaws.{passed-end, size-range}
-use Rattle.sound.specs.Asked.{Passed}
 use Rattle.sound.proofs.AskLaws.{unfit-size, unfit-unsound}
 use Rattle.sound.proofs.asks.Goals as goal
 

@@ -1,4 +1,4 @@
-use Rattle.paper.proofs.Kit.{◌-◌, true, false, refl, sym, ◌∙◌, arith, rules, not-true, not-false}
+use Rattle.paper.proofs.Kit.{true, false, refl, sym, ◌∙◌, arith, rules}
 use Rattle.sound.proofs.StoreLaws.{pass-turn, pass-none, one-most, count_turn, count_none, pass-no, pass-yes}
 use Rattle.sound.proofs.cells_sound.Goals as goal
 

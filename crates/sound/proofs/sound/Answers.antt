@@ -1,4 +1,4 @@
-use Rattle.paper.proofs.Kit.{true, false, ap, ◌∙◌, not-true, not-false}
+use Rattle.paper.proofs.Kit.{true, false, ap, ◌∙◌}
 use Rattle.paper.specs.Sound.{free_list}
 use Rattle.sound.proofs.SoundLaws.{from_first, at-unsound, at-free}
 use Rattle.sound.proofs.sound.Goals as goal

@@ -1,4 +1,4 @@
-use Rattle.paper.proofs.Kit.{◌-◌, arith, rules}
+use Rattle.paper.proofs.Kit.{arith, rules}
 use Rattle.paper.specs.Process.{move_to, J2n}
 use Rattle.steps.proofs.Sequence.{most}
 use Rattle.stacks.proofs.Each.{each_start, each_more, each-end}

@@ -1,4 +1,4 @@
-use Rattle.paper.proofs.Kit.{◌-◌, arith, rules}
+use Rattle.paper.proofs.Kit.{arith, rules}
 use Rattle.paper.specs.Act.{restore}
 use Rattle.paper.specs.Process.{J3n}
 use Rattle.steps.proofs.Sequence.{most}

@@ -1,10 +1,9 @@
-use Rattle.paper.proofs.Kit.{⊎_elim, [], ◌∷◌, refl, arith, rules}
+use Rattle.paper.proofs.Kit.{[], ◌∷◌, refl, arith, rules}
 use Rattle.paper.specs.Walk.{member}
 use Rattle.paper.specs.Process.{listed, J2n, J3n, J4n, J5n}
 use Rattle.steps.proofs.Listed.{entry_for, none_for}
 use Rattle.steps.proofs.Sequence.{give}
 use Rattle.acts.proofs.Dispatch.{arms, arm, tens, unlisted}
-use Rattle.stacks.proofs.Each.{in-ten}
 use Rattle.stacks.proofs.on_stacks.Goals.{in_default-via-then-j-lt20, in_default-via-else-j-lt20+else-j-lt30+else-j-lt40+else-j-lt50+else-j-lt60}
 use Rattle.stacks.proofs.on_stacks.Goals as goal
 

@@ -1,5 +1,5 @@
 use Rattle.cells.proofs.CountLaws.{next-number, next-bits, last-bits, packs-next, integer-of, integer-none}
-use Rattle.paper.proofs.Kit.{arith, refl, ap, ◌∙◌, sym, add-one, ltb-true, ◌+◌, ◌-◌, ◌*◌, ◌%◌, ◌^◌, pos, ◌+ℤ◌}
+use Rattle.paper.proofs.Kit.{arith, refl, ap, ◌∙◌, sym, add-one, ◌+◌, ◌%◌, ◌^◌, pos, ◌+ℤ◌}
 use Rattle.paper.specs.Cell.{term_in}
 use Rattle.paper.specs.Term.{integer_in}
 use Rattle.paper.specs.Cycle.{wrapped}

@@ -1,4 +1,4 @@
-use Rattle.paper.proofs.Kit.{◌-◌, refl, ◌∙◌, sym, arith, ltb, ltb-true, eq-eqb}
+use Rattle.paper.proofs.Kit.{refl, ◌∙◌, sym, arith, ltb, ltb-true, eq-eqb}
 use Rattle.paper.specs.declared.Refusal.TheVariants.{WrongKind}
 use Rattle.paper.proofs.SoundStore.{and-true}
 use Rattle.steps.proofs.Sequence.{when}

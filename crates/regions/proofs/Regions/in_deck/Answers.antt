@@ -1,7 +1,7 @@
 use Rattle.regions.proofs.RegionLaws.{end_more}
 use Rattle.regions.proofs.CellLaws.{more-fits, deck-here, deck-past, deck-more, deck-none}
 use Rattle.regions.specs.Table.{regions_of}
-use Rattle.paper.proofs.Kit.{length, refl, ap, sym, ◌∙◌, ◌<◌, ◌+◌, ◌-◌, arith, rules}
+use Rattle.paper.proofs.Kit.{length, refl, ap, sym, ◌∙◌, ◌<◌, ◌+◌, arith, rules}
 use Rattle.regions.proofs.Regions.in_deck.Goals as goal
 
 pub loop-i-init : goal.loop-i-init

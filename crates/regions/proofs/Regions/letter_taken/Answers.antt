@@ -1,4 +1,4 @@
-use Rattle.paper.proofs.Kit.{◌-◌, refl, sym, ◌∙◌, arith}
+use Rattle.paper.proofs.Kit.{refl, sym, ◌∙◌, arith}
 use Rattle.regions.proofs.RegionLaws.{taken-there, not_there, taken_here, taken_more, taken_none}
 use Rattle.regions.proofs.Regions.letter_taken.Goals as goal
 

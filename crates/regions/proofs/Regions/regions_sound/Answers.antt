@@ -1,4 +1,4 @@
-use Rattle.paper.proofs.Kit.{◌-◌, true, false, refl, ◌∙◌, arith, rules, not-true, not-false}
+use Rattle.paper.proofs.Kit.{true, false, refl, ◌∙◌, arith, rules}
 use Rattle.regions.proofs.RegionLaws.{sound-turn, sound_none}
 use Rattle.regions.proofs.Regions.regions_sound.Goals as goal
 

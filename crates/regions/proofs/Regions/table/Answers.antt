@@ -1,4 +1,4 @@
-use Rattle.paper.proofs.Kit.{◌-◌, ◌<◌, ◌≡◌, refl, ◌∙◌, arith, rules, length}
+use Rattle.paper.proofs.Kit.{◌<◌, ◌≡◌, refl, ◌∙◌, arith, rules, length}
 use Rattle.regions.specs.Table.{regions_of}
 use Rattle.regions.proofs.RegionLaws.{end_more, end_none}
 use Rattle.regions.proofs.LentLaws.{no_rows, row-added, tells}

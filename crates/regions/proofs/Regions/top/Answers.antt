@@ -1,4 +1,4 @@
-use Rattle.paper.proofs.Kit.{◌-◌, refl, ◌∙◌, arith, rules}
+use Rattle.paper.proofs.Kit.{refl, ◌∙◌, arith, rules}
 use Rattle.regions.proofs.RegionLaws.{end_more, end_none}
 use Rattle.regions.proofs.Regions.top.Goals as goal
 
