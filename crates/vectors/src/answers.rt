@@ -6,12 +6,12 @@ use crate::input::byte;
 use paper::LoadAnswer;
 use regions::Regions;
 
-pub(crate) fn text(t: &[u8]) {
-    io::write_all(1, t);
+pub(crate) fn text(rt: &impl Print, t: &[u8]) {
+    let _ = rt.write_all(t);
 }
 
-pub(crate) fn number(n: u64) {
-    io::print_decimal(1, n);
+pub(crate) fn number(rt: &impl Print, n: u64) {
+    let _ = rt.print(n);
 }
 
 // The cells in one number: h * 1000003 + w for each, by 1000000007.
@@ -28,37 +28,37 @@ pub(crate) fn digest(cells: &[u64]) -> u64
 }
 
 // The end of a line: the digest of the cells.
-pub(crate) fn end(d: u64) {
-    text(b" | ");
-    number(d);
-    text(b"\n");
+pub(crate) fn end(rt: &impl Print, d: u64) {
+    text(rt, b" | ");
+    number(rt, d);
+    text(rt, b"\n");
 }
 
 // The answer of a load, and the offset where it was refused.
-pub(crate) fn load(a: LoadAnswer) {
-    number(a.number() as u64);
+pub(crate) fn load(rt: &impl Print, a: LoadAnswer) {
+    number(rt, a.number() as u64);
     match a {
         LoadAnswer::Broken(_, at) => {
-            text(b" ");
-            number(at as u64);
+            text(rt, b" ");
+            number(rt, at as u64);
         }
-        _ => text(b" -"),
+        _ => text(rt, b" -"),
     }
 }
 
 // "A:12,B:3" in record order.
-pub(crate) fn regions(r: Regions) {
+pub(crate) fn regions(rt: &impl Print, r: Regions) {
     let m = r.len();
     if m == 0 {
-        text(b"-");
+        text(rt, b"-");
     }
     let mut i = 0;
     while i < m {
         if 0 < i {
-            text(b",");
+            text(rt, b",");
         }
-        text(&[r.letters[i], b':']);
-        number(r.counts[i] as u64);
+        text(rt, &[r.letters[i], b':']);
+        number(rt, r.counts[i] as u64);
         i += 1;
     }
 }
@@ -88,16 +88,16 @@ fn untouched(cells: &[u64]) -> bool
 }
 
 // The cells after a load: "1 | N out of range; store untouched".
-pub(crate) fn loaded(a: LoadAnswer, cells: &[u64]) {
+pub(crate) fn loaded(rt: &impl Print, a: LoadAnswer, cells: &[u64]) {
     let LoadAnswer::BadSize = a else {
-        end(digest(cells));
+        end(rt, digest(cells));
         return;
     };
     if untouched(cells) {
-        text(b" | -\n");
+        text(rt, b" | -\n");
         return;
     }
-    text(b" | touched\n");
+    text(rt, b" | touched\n");
 }
 
 // What stands in the output room before a run.
@@ -155,29 +155,29 @@ fn hex(out: &[u8], digits: &mut [u8]) {
     }
 }
 
-fn write_hex(out: &[u8], digits: &mut [u8]) {
+fn write_hex(rt: &impl Print, out: &[u8], digits: &mut [u8]) {
     hex(out, digits);
-    text(digits);
+    text(rt, digits);
 }
 
 // The first n digits.
-fn in_hex(out: &[u8], digits: &mut [u8], n: usize) {
+fn in_hex(rt: &impl Print, out: &[u8], digits: &mut [u8], n: usize) {
     if n <= digits.len() {
-        write_hex(out, &mut digits[..n]);
+        write_hex(rt, out, &mut digits[..n]);
     }
 }
 
 // The lines of a run, in hex.
-pub(crate) fn lines(out: &[u8], len: usize) {
+pub(crate) fn lines(rt: &impl Print, out: &[u8], len: usize) {
     let mut digits = [0u8; 131072];
     if len == 0 {
-        text(b"-");
+        text(rt, b"-");
     }
     if len < 65536 {
-        in_hex(out, &mut digits, len * 2);
+        in_hex(rt, out, &mut digits, len * 2);
     }
     if (out.len() < len) | !kept(out, len) {
-        text(b" past the lines");
+        text(rt, b" past the lines");
     }
 }
 
@@ -200,21 +200,21 @@ fn zeros(cells: &[u16], from: usize) -> bool
     true
 }
 
-fn numbers(cells: &[u16], n: usize) {
+fn numbers(rt: &impl Print, cells: &[u16], n: usize) {
     let mut i = 0;
     while i < cells.len() {
         if i < n {
-            text(b" ");
-            number(wide(cells[i]));
+            text(rt, b" ");
+            number(rt, wide(cells[i]));
         }
         i += 1;
     }
 }
 
 // The cells of a walk; past them stand zeros.
-pub(crate) fn met(cells: &[u16], n: usize) {
-    numbers(cells, n);
+pub(crate) fn met(rt: &impl Print, cells: &[u16], n: usize) {
+    numbers(rt, cells, n);
     if !zeros(cells, n) {
-        text(b" past the walk");
+        text(rt, b" past the walk");
     }
 }

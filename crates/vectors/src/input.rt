@@ -4,13 +4,14 @@ ghost use Rattle.paper.specs.Record.{byte_at, pair_at};
 ghost use Rattle.vectors.specs.Input.{three_at, four_at, eight_at};
 
 use regions::Regions;
+use std::io::Read;
 
 // The next k bytes of the input, at the start of the buffer: whether there were as many.
-pub(crate) fn take(bytes: &mut [u8], k: usize) -> bool
+pub(crate) fn take(stdin: &mut impl Read, bytes: &mut [u8], k: usize) -> bool
     ensures { result ≡ true → k ≤ length bytes.new }
 {
     if k <= bytes.len() {
-        return io::read_full(0, &mut bytes[..k]) == k;
+        return stdin.read_exact(&mut bytes[..k]).is_ok();
     }
     false
 }
@@ -76,11 +77,11 @@ fn put(cells: &mut [u64], c: usize, x: u64) {
 }
 
 // The cells that come next, each read by itself, so that no buffer has to hold them all: whether there were n.
-pub(crate) fn cells(bytes: &mut [u8], cells: &mut [u64], n: usize) -> bool {
+pub(crate) fn cells(stdin: &mut impl Read, bytes: &mut [u8], cells: &mut [u64], n: usize) -> bool {
     let mut whole = true;
     let mut c = 0;
     while c < n {
-        whole = whole & take(bytes, 8);
+        whole = whole & take(stdin, bytes, 8);
         put(cells, c, cell(bytes));
         c += 1;
     }
@@ -109,10 +110,10 @@ pub struct Listed {
     pub regions: Regions,
 }
 
-pub(crate) fn regions(bytes: &mut [u8]) -> Listed {
-    let counted = take(bytes, 1);
+pub(crate) fn regions(stdin: &mut impl Read, bytes: &mut [u8]) -> Listed {
+    let counted = take(stdin, bytes, 1);
     let n = byte(bytes, 0);
-    let whole = take(bytes, wide(n) * 3);
+    let whole = take(stdin, bytes, wide(n) * 3);
     Listed {
         whole: counted & whole,
         regions: table(bytes, n),

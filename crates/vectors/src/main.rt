@@ -5,23 +5,34 @@ mod answers;
 mod cases;
 mod input;
 
+use std::io::Read;
+
 // More than a store may have, so that N out of range is a case too.
 const MANY_CELLS: usize = 70000;
 
 // What the cells hold before the first case; each case writes its own. Not zeros, for the reason of `undo::UNREAD`.
 const UNREAD: u64 = 1;
 
+// A deck or the room of a run has at most 65,535 bytes, as its length in a case has two.
+const LARGE: usize = 65536;
+
 // A proved loop has to end, and nothing says that the input does: so the turns are counted down, from more than any input has cases.
-fn all(cells: &mut [u64], bytes: &mut [u8], out: &mut [u8]) {
+fn all(
+    rt: &impl Print,
+    stdin: &mut impl Read,
+    cells: &mut [u64],
+    bytes: &mut [u8],
+    out: &mut [u8],
+) {
     let mut turns = u64::MAX;
-    while 0 < turns && cases::next(cells, bytes, out) {
+    while 0 < turns && cases::next(rt, stdin, cells, bytes, out) {
         turns -= 1;
     }
 }
 
-fn main() {
+fn main(rt: HostRuntime) {
     let mut cells = [UNREAD; MANY_CELLS];
-    let mut bytes = io::large_buffer();
-    let mut out = io::large_buffer();
-    all(&mut cells, &mut bytes, &mut out);
+    let mut bytes = [0u8; LARGE];
+    let mut out = [0u8; LARGE];
+    all(&rt, &mut rt.reader(), &mut cells, &mut bytes, &mut out);
 }
