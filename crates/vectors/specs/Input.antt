@@ -1,5 +1,5 @@
 -- Numbers from bytes, "numbers big-endian": 0 for a byte past the end.
-use Rattle.std.specs.Prelude.{ℕ, ◌+◌, ◌*◌, List, get_or}
+use Rattle.std.specs.Prelude.{ℕ, ◌+◌, ◌*◌, List}
 use Rattle.paper.specs.Record.{byte_at, pair_at}
 
 -- N has three bytes, a budget four, the number of a cell eight

@@ -13,8 +13,8 @@ const MANY_CELLS: usize = 70000;
 // What the cells hold before the first case; each case writes its own. Not zeros, for the reason of `undo::UNREAD`.
 const UNREAD: u64 = 1;
 
-// A deck or the room of a run has at most 65,535 bytes, as its length in a case has two.
-const LARGE: usize = 65536;
+// Enough for a deck or the room of a run, whose length in a case has two bytes.
+const MANY_BYTES: usize = 65536;
 
 // A proved loop has to end, and nothing says that the input does: so the turns are counted down, from more than any input has cases.
 fn all(
@@ -32,7 +32,7 @@ fn all(
 
 fn main(rt: HostRuntime) {
     let mut cells = [UNREAD; MANY_CELLS];
-    let mut bytes = [0u8; LARGE];
-    let mut out = [0u8; LARGE];
+    let mut bytes = [0u8; MANY_BYTES];
+    let mut out = [0u8; MANY_BYTES];
     all(&rt, &mut rt.reader(), &mut cells, &mut bytes, &mut out);
 }

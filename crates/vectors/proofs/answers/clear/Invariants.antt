@@ -1,8 +1,5 @@
-use Rattle.paper.proofs.Kit.{◌-◌, ◌≡◌, length}
+use Rattle.paper.proofs.Kit.{◌-◌, length}
 use Rattle.vectors.proofs.answers.clear.Given as goal
-
-abbrev pub invariant-loop-i : goal.invariant-loop-i
-invariant-loop-i l = length l.out ≡ length l.initial.out
 
 abbrev pub decreases-loop-i : goal.decreases-loop-i
 decreases-loop-i l = length l.initial.out - l.i

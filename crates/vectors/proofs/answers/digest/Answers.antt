@@ -1,9 +1,6 @@
-use Rattle.paper.proofs.Kit.{◌-◌, refl, sym, ◌∙◌}
+use Rattle.paper.proofs.Kit.{sym, ◌∙◌}
 use Rattle.vectors.proofs.ListLaws.{digest-turn, digest-none}
 use Rattle.vectors.proofs.answers.digest.Goals as goal
-
-pub loop-c-init : goal.loop-c-init
-loop-c-init c = refl
 
 pub loop-c-preserved : goal.loop-c-preserved
 loop-c-preserved c =

@@ -1,10 +1,7 @@
-use Rattle.paper.proofs.Kit.{◌-◌, refl, ◌∙◌, rules}
+use Rattle.paper.proofs.Kit.{◌∙◌, rules}
 use Rattle.vectors.specs.Lines.{unwritten}
 use Rattle.vectors.proofs.ListLaws.{all-turn, all-other, all_none}
 use Rattle.vectors.proofs.answers.kept.Goals as goal
-
-pub loop-i-init : goal.loop-i-init
-loop-i-init c = refl
 
 pub returns-then-out-i : goal.returns-then-out-i
 returns-then-out-i c =

@@ -1,8 +1,5 @@
 use Rattle.paper.proofs.Kit.{◌-◌, length}
 use Rattle.vectors.proofs.answers.numbers.Given as goal
 
-abbrev pub invariant-loop-i : goal.invariant-loop-i
-invariant-loop-i g l = Unit
-
 abbrev pub decreases-loop-i : goal.decreases-loop-i
 decreases-loop-i g l = length l.cells - l.i

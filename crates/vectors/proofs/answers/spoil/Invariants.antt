@@ -1,8 +1,5 @@
-use Rattle.paper.proofs.Kit.{◌-◌, ◌≡◌, length}
+use Rattle.paper.proofs.Kit.{◌-◌, length}
 use Rattle.vectors.proofs.answers.spoil.Given as goal
-
-abbrev pub invariant-loop-c : goal.invariant-loop-c
-invariant-loop-c l = length l.cells ≡ length l.initial.cells
 
 abbrev pub decreases-loop-c : goal.decreases-loop-c
 decreases-loop-c l = length l.initial.cells - l.c

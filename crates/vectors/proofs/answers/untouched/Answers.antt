@@ -1,10 +1,7 @@
-use Rattle.paper.proofs.Kit.{◌-◌, refl, ◌∙◌, rules}
+use Rattle.paper.proofs.Kit.{◌∙◌, rules}
 use Rattle.vectors.specs.Lines.{spoilt}
 use Rattle.vectors.proofs.ListLaws.{all-turn, all-other, all_none}
 use Rattle.vectors.proofs.answers.untouched.Goals as goal
-
-pub loop-c-init : goal.loop-c-init
-loop-c-init c = refl
 
 pub returns-then-cells-c : goal.returns-then-cells-c
 returns-then-cells-c c =

@@ -1,9 +1,6 @@
-use Rattle.paper.proofs.Kit.{◌-◌, refl, ◌∙◌, rules}
+use Rattle.paper.proofs.Kit.{◌∙◌, rules}
 use Rattle.vectors.proofs.ListLaws.{all-turn, all-other, all_none}
 use Rattle.vectors.proofs.answers.zeros.Goals as goal
-
-pub loop-i-init : goal.loop-i-init
-loop-i-init c = refl
 
 pub returns-then-cells-i-ne0 : goal.returns-then-cells-i-ne0
 returns-then-cells-i-ne0 c =

@@ -1,8 +1,5 @@
 use Rattle.paper.proofs.Kit.{◌-◌}
 use Rattle.vectors.proofs.input.table.Given as goal
 
-abbrev pub invariant-loop-i : goal.invariant-loop-i
-invariant-loop-i l = Unit
-
 abbrev pub decreases-loop-i : goal.decreases-loop-i
 decreases-loop-i l = l.n - l.i

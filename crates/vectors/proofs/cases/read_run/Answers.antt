@@ -1,8 +1,0 @@
-use Rattle.paper.proofs.Kit.{length-take-le, rules}
-use Rattle.vectors.proofs.cases.read_run.Goals as goal
-
-pub slice_bounds-run_store-end-then-room-out : goal.slice_bounds-run_store-end-then-room-out
-slice_bounds-run_store-end-then-room-out g c = search (rules, length-take-le)
-
-pub slice_bounds-run_store-end-then-room-out-3 : goal.slice_bounds-run_store-end-then-room-out-3
-slice_bounds-run_store-end-then-room-out-3 g c = search (rules, length-take-le)

@@ -1,5 +1,0 @@
-use Rattle.paper.proofs.Kit.{length-take-le, rules}
-use Rattle.vectors.proofs.cases.read_walk.Goals as goal
-
-pub slice_bounds-walk-end-then-n-cells : goal.slice_bounds-walk-end-then-n-cells
-slice_bounds-walk-end-then-n-cells g c = search (rules, length-take-le)
