@@ -1,6 +1,5 @@
 -- The laws that join lines of a block: one for each way.
 pub mod Steps
-pub mod Join
 pub mod Sequence
 pub mod Rest
 pub mod Listed

@@ -1,6 +1,6 @@
--- The contracts of actions: what code has done that follows a block over the lent cells, their log, and the verdict `go`. What of a state
+-- The contracts of actions: what code has done that follows a block over the lent cells and their log. What of a state
 -- is not in the cells (`Rest`) is quantified over, and K says what is known of it.
-use Rattle.std.specs.Prelude.{ℕ, ◌+◌, ◌≤◌, ◌≡◌, refl, Bool, cond, ◌&&◌, List, ltb}
+use Rattle.std.specs.Prelude.{ℕ, ◌+◌, ◌≤◌, ◌≡◌, refl, Bool, cond, ◌&&◌, List, ltb, Result}
 use Rattle.std.proofs.Common.{◌∙◌, arith}
 use denote.Triple.Both.{Both}
 use Rattle.std.specs.Borrow.{Bor, MutBor}
@@ -11,10 +11,9 @@ use Rattle.paper.specs.Cell.{State, end_of_regions, regional, internal}
 use Rattle.paper.specs.Act.{Act}
 use Rattle.cells.specs.Pack.{AllFormed}
 use Rattle.cells.specs.Bridge.{Rest, state_of}
-use Rattle.steps.specs.Follows.{World, Follows, testing}
+use Rattle.steps.specs.Follows.{World, Follows, testing, seen_as}
 use Rattle.steps.specs.Follows as steps
 use Rattle.undo.specs.Log.{used, rewind_of, Fits}
-use Rattle.undo.specs.Verdict.{told}
 
 -- nothing is known of the rest; the regions end at `top`
 abbrev pub Always : Rest → Type 0
@@ -66,7 +65,7 @@ lent =
       more = λ k i x y h p. record { back = p.back; count = omega arith; formed = p.formed };
     }
 
--- Contracts. A lent slice, before and after; one that is only read; and the verdict, before and after.
+-- Contracts. A lent slice, before and after; one that is only read; and what the code answers.
 abbrev pub Lent : Type 0
 Lent = Both (MutBor (List ℕ)) (MutBor (List ℕ))
 
@@ -74,17 +73,20 @@ abbrev pub Shown : Type 0
 Shown = Both (Bor (List ℕ)) (Bor (List ℕ))
 
 -- a test: no state is read or written
-abbrev pub Judged : Act (Unit {0}) → ℕ → ℕ → Type 0
-Judged M go r = Follows (testing State Refusal) steps.Always 0 M tt (told go) tt (told r) tt
+abbrev pub Judged : Act (Unit {0}) → Result (Unit {0}) Refusal → Type 0
+Judged M r = Follows (testing State Refusal) steps.Always 0 M tt tt r
 
 -- a part of the state is v
 abbrev pub Sees : {A : Type 0} → (Rest → Type 0) → Act A → Shown → A → Type 0
 Sees K M cells v = steps.Sees reading K M cells.entry.now v
 
--- a value is read, or the reading is refused
-abbrev pub Reads : {A : Type 0} → (Rest → Type 0) → Act A → Shown → ℕ → ℕ → A → Type 0
-Reads K M cells go r v = Follows reading K 0 M cells.entry.now (told go) cells.entry.now (told r) v
+-- a value is read, or the reading is refused; f tells what the code's value is
+abbrev pub Reads : {A : Type 0} → (Rest → Type 0) → Act A → Shown → Result A Refusal → Type 0
+Reads K M cells r = Follows reading K 0 M cells.entry.now cells.entry.now r
+
+abbrev pub ReadsAs : {A B : Type 0} → (B → A) → (Rest → Type 0) → Act A → Shown → Result B Refusal → Type 0
+ReadsAs f K M cells r = Reads K M cells (seen_as f r)
 
 -- what writes, in at most k writes that are logged
-abbrev pub Did : {A : Type 0} → (Rest → Type 0) → ℕ → Act A → Lent → Lent → ℕ → ℕ → A → Type 0
-Did K k M cells log go r v = Follows lent K k M (cells.entry.now, log.entry.now) (told go) (cells.exit.now, log.exit.now) (told r) v
+abbrev pub Did : {A : Type 0} → (Rest → Type 0) → ℕ → Act A → Lent → Lent → Result A Refusal → Type 0
+Did K k M cells log r = Follows lent K k M (cells.entry.now, log.entry.now) (cells.exit.now, log.exit.now) r

@@ -1,15 +1,14 @@
-use Rattle.paper.proofs.Kit.{rules, arith, ◌-◌, ap, sym, ◌∙◌, length, length-set}
+use Rattle.paper.proofs.Kit.{arith, ◌-◌, ap, sym, ◌∙◌, length, length-set}
 use Rattle.undo.proofs.Log.{rewind-step, rewind-none}
 use Rattle.undo.specs.Log.{rewind_of, rewind_from, put_back}
 use Rattle.undo.proofs.rewind.Goals as goal
 
-pub loop-left-preserved : goal.loop-left-preserved
-loop-left-preserved c =
-    let l = c.loop-left in
+pub loop-i-preserved : goal.loop-i-preserved
+loop-i-preserved c =
+    let l = c.loop-i in
     let log = c.args.log.now in (
-      search rules,
-      ap length c.set_at.ensures ∙ simp length-set l.invariant.1,
-      ap (rewind_from log (l.left - 1)) c.set_at.ensures ∙ sym (rewind-step log l.left l.cells (omega arith)) ∙ l.invariant.2,
+      ap length c.set_at.ensures ∙ simp length-set l.invariant.0,
+      ap (rewind_from log (l.i - 1)) c.set_at.ensures ∙ sym (rewind-step log l.i l.cells (omega arith)) ∙ l.invariant.1,
     )
 
 pub returns : goal.returns
@@ -20,5 +19,5 @@ returns c =
       c.set_at-4.ensures,
       c.set_at-3.ensures,
       c.set_at-2.ensures,
-      ← (rewind-none c.args.log.now c.loop-left.left c.loop-left.cells c.loop-left-test.false),
-    ) (ap (put_back c.args.log.now) c.loop-left.invariant.2)
+      ← (rewind-none c.args.log.now c.loop-i.i c.loop-i.cells (omega arith)),
+    ) (ap (put_back c.args.log.now) c.loop-i.invariant.1)

@@ -1,9 +1,6 @@
-use Rattle.paper.proofs.Kit.{◌≤◌, ◌≡◌, length}
-use Rattle.undo.specs.Log.{used, rewind_from}
+use Rattle.paper.proofs.Kit.{◌≡◌, length}
+use Rattle.undo.specs.Log.{rewind_from}
 use Rattle.undo.proofs.rewind.Given as goal
 
-abbrev pub invariant-loop-left : goal.invariant-loop-left
-invariant-loop-left l = (l.left ≤ used l.log) × (length l.cells ≡ length l.initial.cells) × (rewind_from l.log l.left l.cells ≡ rewind_from l.log (used l.log) l.initial.cells)
-
-abbrev pub decreases-loop-left : goal.decreases-loop-left
-decreases-loop-left l = l.left
+abbrev pub invariant-loop-i : goal.invariant-loop-i
+invariant-loop-i l = (length l.cells ≡ length l.initial.cells) × (rewind_from l.log l.i l.cells ≡ rewind_from l.log l.n l.initial.cells)
