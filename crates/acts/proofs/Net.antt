@@ -1,6 +1,7 @@
 -- Pop, then push x, is `stays x` wherever H2 is a word: the cell that the pop frees is the one that the push takes.
-use Rattle.paper.proofs.Kit.{clash, ◌≡◌, refl, sym, ap, ◌∙◌, Bool, true, false, ◌&&◌, not, List, [], ◌∷◌, ◌≢◌, Option, ℕ, zero, suc, ◌+◌, ◌<◌, ◌≤◌, arith}
+use Rattle.paper.proofs.Kit.{clash, ◌≡◌, refl, sym, ap, ◌∙◌, Bool, true, false, ◌&&◌, not, List, [], ◌∷◌, ◌≢◌, ℕ, zero, suc, ◌+◌, ◌<◌, ◌≤◌, arith}
 use Rattle.paper.proofs.Kit.{eqb-false, ltb-false, lt-ltb, eqb, ltb, length, set, length-set, get_or-set_same, get_or-set_other, set-set, set_comm, set-get_or}
+use Rattle.std.specs.Prelude.{Result}
 use Rattle.paper.specs.declared.Symbol.{Symbol}
 use Rattle.paper.specs.declared.Refusal.{Refusal}
 use Rattle.paper.specs.declared.Refusal.TheVariants.{FreeCell, WrongKind, NotToBeFreed, NothingBelow}
@@ -253,7 +254,7 @@ net x s k = go (way s)
     go (stops e f) = net-no x s e f
 
 -- carried to the numbers
-pub net-did : (x : Symbol) {k : ℕ} {K : Rest → Type 0} {s l : List ℕ} {y : List ℕ × List ℕ} {a r : Option Refusal} → is_word (cell_in s 3) ≡ true
-    → Follows lent K k (stays x) (s, l) a y r tt → Follows lent K k (gives 1 x) (s, l) a y r tt
+pub net-did : (x : Symbol) {k : ℕ} {K : Rest → Type 0} {s l : List ℕ} {y : List ℕ × List ℕ} {r : Result (Unit {0}) Refusal} → is_word (cell_in s 3) ≡ true
+    → Follows lent K k (stays x) (s, l) y r → Follows lent K k (gives 1 x) (s, l) y r
 unfolding cell_in
 net-did x {s = s} q d = alike-here (λ e h. net x (state_of e s) q) d

@@ -28,13 +28,9 @@ pub fn own(cells: &[u64], c: u16) -> u64
 pub fn touch(cells: &[u64], c: u16) -> Result<u64, Refusal>
     ensures { ReadsAs unpack_of Always (touch c) cells result }
 {
-    if c == 0 {
-        return Err(Refusal::CellZero);
-    }
+    undo::refuse_if(c == 0, Refusal::CellZero)?;
     let x = cells::peek(cells, c);
-    if cells::is_free(x) {
-        return Err(Refusal::FreeCell(c));
-    }
+    undo::refuse_if(cells::is_free(x), Refusal::FreeCell(c))?;
     Ok(x)
 }
 
@@ -43,9 +39,7 @@ pub fn target(cells: &[u64], c: u16) -> Result<u64, Refusal>
     ensures { ReadsAs unpack_of Always (target c) cells result }
 {
     let x = touch(cells, c)?;
-    if c == limits::H3 {
-        return Err(Refusal::OwnCell(c));
-    }
+    undo::refuse_if(c == limits::H3, Refusal::OwnCell(c))?;
     Ok(x)
 }
 
@@ -111,19 +105,14 @@ fn is_own(c: u16) -> bool
 pub fn not_own(c: u16) -> Result<(), Refusal>
     ensures { Judged (not_own c) result }
 {
-    if is_own(c) {
-        return Err(Refusal::OwnCell(c));
-    }
-    Ok(())
+    undo::refuse_if(is_own(c), Refusal::OwnCell(c))
 }
 
 pub fn named(cells: &[u64], c: u16) -> Result<u64, Refusal>
     ensures { ReadsAs word_of Always (named c) cells result }
 {
     let w = word_at(cells, c)?;
-    if is_own(c) {
-        return Err(Refusal::OwnCell(c));
-    }
+    not_own(c)?;
     Ok(w)
 }
 
@@ -143,12 +132,8 @@ pub fn read_at(cells: &[u64], c: u16) -> Result<u64, Refusal>
     ensures { ReadsAs word_of Always (read_at c) cells result }
 {
     let w = word_at(cells, c)?;
-    if w / cells::Q % 256 == 1 {
-        return Err(Refusal::WrongKind(c));
-    }
-    if is_own(c) {
-        return Err(Refusal::OwnCell(c));
-    }
+    undo::refuse_if(w / cells::Q % 256 == 1, Refusal::WrongKind(c))?;
+    not_own(c)?;
     Ok(w)
 }
 
@@ -174,11 +159,14 @@ pub fn take_as(cells: &mut [u64], log: &mut [u64], y: u64) -> Result<u16, Refusa
 {
     let h = own(cells, limits::H2);
     let f = (h % 65536) as u16;
-    if f == 0 {
-        return Err(Refusal::NoFreeCell);
-    }
+    undo::refuse_if(f == 0, Refusal::NoFreeCell)?;
     let x = cells::peek(cells, f);
-    undo::put(cells, log, limits::H2, cells::with_link(h, cells::free_link(x)));
+    undo::put(
+        cells,
+        log,
+        limits::H2,
+        cells::with_link(h, cells::free_link(x)),
+    );
     undo::put(cells, log, f, y);
     Ok(f)
 }
@@ -213,13 +201,8 @@ pub fn has_below(c: u16, w: u64) -> Result<(), Refusal>
     ensures { Judged (has_below c (word_of w)) result }
 {
     let l = (w % 65536) as u16;
-    if l == c {
-        return Err(Refusal::NotToBeFreed(c));
-    }
-    if l == 0 {
-        return Err(Refusal::NothingBelow(c));
-    }
-    Ok(())
+    undo::refuse_if(l == c, Refusal::NotToBeFreed(c))?;
+    undo::refuse_if(l == 0, Refusal::NothingBelow(c))
 }
 
 // A Q 1 word that would come into an H or W cell.
@@ -229,17 +212,19 @@ fn q1_for_hw(c: u16, w: u64) -> bool
     reserved(limits::J0, c) && w / cells::Q % 256 == 1
 }
 
-pub fn pull_up(cells: &mut [u64], log: &mut [u64], top: u16, c: u16, below: u16) -> Result<(), Refusal>
+pub fn pull_up(
+    cells: &mut [u64],
+    log: &mut [u64],
+    top: u16,
+    c: u16,
+    below: u16,
+) -> Result<(), Refusal>
     requires { Suits log.old (writes c + 1) top }
     ensures { Did (Top top) (writes c + 1) (pull_up c below) cells log result }
 {
     let v = word_at(cells, below)?;
-    if q1_for_hw(c, v) {
-        return Err(Refusal::WrongKind(below));
-    }
-    if reserved(top, below) {
-        return Err(Refusal::NotToBeFreed(below));
-    }
+    undo::refuse_if(q1_for_hw(c, v), Refusal::WrongKind(below))?;
+    undo::refuse_if(reserved(top, below), Refusal::NotToBeFreed(below))?;
     undo::put(cells, log, c, cells::of_word(v));
     release(cells, log, below);
     Ok(())
@@ -297,7 +282,12 @@ pub fn push(cells: &mut [u64], log: &mut [u64], x: Symbol) -> Result<(), Refusal
 {
     let w = own(cells, limits::H0);
     let t = take_as(cells, log, cells::of_word(w))?;
-    undo::put(cells, log, limits::H0, cells::of_fields((w / cells::P % 256) as u8, x.tag, x.num, t));
+    undo::put(
+        cells,
+        log,
+        limits::H0,
+        cells::of_fields((w / cells::P % 256) as u8, x.tag, x.num, t),
+    );
     Ok(())
 }
 
@@ -318,20 +308,15 @@ pub fn below(cells: &[u64], c: u16, w: u64) -> Result<u64, Refusal>
     read_at(cells, l)
 }
 
-pub fn pops2(cells: &mut [u64], log: &mut [u64], top: u16) -> Result<(), Refusal>
-    requires { Suits log.old 2 top }
-    ensures { Did (Top top) 2 (pops 2) cells log result }
+// N pops, one after another.
+pub fn pops<const N: usize>(cells: &mut [u64], log: &mut [u64], top: u16) -> Result<(), Refusal>
+    requires { Suits log.old N top }
+    ensures { Did (Top top) N (pops N) cells log result }
 {
-    pop(cells, log, top)?;
-    pop(cells, log, top)
-}
-
-pub fn pops3(cells: &mut [u64], log: &mut [u64], top: u16) -> Result<(), Refusal>
-    requires { Suits log.old 3 top }
-    ensures { Did (Top top) 3 (pops 3) cells log result }
-{
-    pop(cells, log, top)?;
-    pops2(cells, log, top)
+    for _ in 0..N {
+        pop(cells, log, top)?;
+    }
+    Ok(())
 }
 
 // A pop and then a push of x, as one write, which is not logged.
@@ -343,13 +328,14 @@ fn stays(cells: &mut [u64], log: &mut [u64], top: u16, x: Symbol) -> Result<(), 
     has_below(limits::H0, w)?;
     let l = (w % 65536) as u16;
     let v = word_at(cells, l)?;
-    if q1_for_hw(limits::H0, v) {
-        return Err(Refusal::WrongKind(l));
-    }
-    if reserved(top, l) {
-        return Err(Refusal::NotToBeFreed(l));
-    }
-    undo::put(cells, log, limits::H0, cells::of_fields((v / cells::P % 256) as u8, x.tag, x.num, l));
+    undo::refuse_if(q1_for_hw(limits::H0, v), Refusal::WrongKind(l))?;
+    undo::refuse_if(reserved(top, l), Refusal::NotToBeFreed(l))?;
+    undo::put(
+        cells,
+        log,
+        limits::H0,
+        cells::of_fields((v / cells::P % 256) as u8, x.tag, x.num, l),
+    );
     Ok(())
 }
 
@@ -418,20 +404,17 @@ pub fn set_h5(cells: &mut [u64], log: &mut [u64], plus: bool)
     own_store(cells, log, limits::H5, sign(plus));
 }
 
-pub fn tests1(cells: &mut [u64], log: &mut [u64], top: u16, plus: bool) -> Result<(), Refusal>
-    requires { Suits log.old 1 top }
-    ensures { Did (Top top) 1 (tests 1 plus) cells log result }
+pub fn tests<const N: usize>(
+    cells: &mut [u64],
+    log: &mut [u64],
+    top: u16,
+    plus: bool,
+) -> Result<(), Refusal>
+    requires { Suits log.old N top }
+    ensures { Did (Top top) N (tests N plus) cells log result }
 {
     set_h5(cells, log, plus);
-    pop(cells, log, top)
-}
-
-pub fn tests2(cells: &mut [u64], log: &mut [u64], top: u16, plus: bool) -> Result<(), Refusal>
-    requires { Suits log.old 2 top }
-    ensures { Did (Top top) 2 (tests 2 plus) cells log result }
-{
-    set_h5(cells, log, plus);
-    pops2(cells, log, top)
+    pops::<N>(cells, log, top)
 }
 
 // "its name is local if X's tag was 2, else internal"

@@ -1,15 +1,16 @@
-use Rattle.paper.specs.Act.{named, not_own}
-use Rattle.undo.proofs.Early.{early}
+use Rattle.undo.proofs.Auto.{lines}
+use Rattle.steps.proofs.Sequence.{same_err}
+use Rattle.paper.specs.Act.{named}
 use Rattle.acts.proofs.named.Goals as goal
 
-pub returns-then-g-ne0 : goal.returns-then-g-ne0
-unfolding named not_own
-returns-then-g-ne0 c = search (early, c.if-g-ne0.true) depth 20
+pub returns-in_err-w : goal.returns-in_err-w
+unfolding named
+returns-in_err-w c = let e = c.in_err-w.ensures in rw (same_err c.from_residual.ensures.1) (search lines depth 20)
 
-pub returns-then-is_own : goal.returns-then-is_own
-unfolding named not_own
-returns-then-is_own c = search early depth 20
+pub returns-in_err-not_own : goal.returns-in_err-not_own
+unfolding named
+returns-in_err-not_own c = let h0 = c.in_ok-w.ensures in let e = c.in_err-not_own.ensures in rw (same_err c.from_residual-in_err-not_own.ensures.1) (search lines depth 20)
 
 pub returns : goal.returns
-unfolding named not_own
-returns c = search early depth 20
+unfolding named
+returns c = let h0 = c.in_ok-w.ensures in let h1 = c.in_ok-not_own.ensures in search lines depth 20

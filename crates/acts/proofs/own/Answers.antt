@@ -1,6 +1,6 @@
+use Rattle.undo.proofs.Leaves.{owned}
 use Rattle.paper.proofs.Kit.{ap, ◌∙◌}
 use Rattle.paper.specs.Cell.{word_in}
-use Rattle.undo.proofs.Leaves.{owned}
 use Rattle.acts.proofs.own.Goals as goal
 
 pub returns : goal.returns

@@ -1,11 +1,11 @@
-use Rattle.paper.proofs.Kit.{ap}
-use Rattle.paper.specs.Act.{take_as}
-use Rattle.steps.proofs.Sequence.{bind, alike}
-use Rattle.undo.proofs.Lines.{looks, puts}
+use Rattle.steps.proofs.Sequence.{same_err}
+use Rattle.undo.proofs.Auto.{lines}
+use Rattle.steps.proofs.Sequence.{alike}
 use Rattle.acts.proofs.Once.{push-once}
 use Rattle.acts.proofs.push.Goals as goal
 
+pub returns-in_err-t : goal.returns-in_err-t
+returns-in_err-t c = let e = c.in_err-t.ensures in rw (same_err c.from_residual.ensures.1) (alike (push-once _) (search lines depth 20))
+
 pub returns : goal.returns
-returns c =
-    alike (push-once _) (looks _ c.own-w.ensures
-    (bind _ (alike (ap take_as c.of_word.ensures.unpacks) c.take_as-t.ensures) (puts _ c.of_fields.ensures c.put.ensures)))
+returns c = let h = c.in_ok-t.ensures in alike (push-once _) (search lines depth 20)

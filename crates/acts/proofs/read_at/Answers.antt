@@ -1,19 +1,20 @@
-use Rattle.paper.specs.Act.{read_at, not_own}
-use Rattle.undo.proofs.Early.{early}
+use Rattle.undo.proofs.Auto.{lines}
+use Rattle.steps.proofs.Sequence.{same_err}
+use Rattle.paper.specs.Act.{read_at}
 use Rattle.acts.proofs.read_at.Goals as goal
 
-pub returns-then-g-ne0 : goal.returns-then-g-ne0
-unfolding read_at not_own
-returns-then-g-ne0 c = search (early, c.if-g-ne0.true) depth 20
+pub returns-in_err-w : goal.returns-in_err-w
+unfolding read_at
+returns-in_err-w c = let e = c.in_err-w.ensures in rw (same_err c.from_residual.ensures.1) (search lines depth 20)
 
-pub returns-then-g-eq1 : goal.returns-then-g-eq1
-unfolding read_at not_own
-returns-then-g-eq1 c = search early depth 20
+pub returns-in_err-refuse_if : goal.returns-in_err-refuse_if
+unfolding read_at
+returns-in_err-refuse_if c = let h0 = c.in_ok-w.ensures in let e = c.in_err-refuse_if.ensures in rw (same_err c.from_residual-in_err-refuse_if.ensures.1) (search lines depth 20)
 
-pub returns-then-is_own : goal.returns-then-is_own
-unfolding read_at not_own
-returns-then-is_own c = search (early, c.if-g-eq1.false) depth 20
+pub returns-in_err-not_own : goal.returns-in_err-not_own
+unfolding read_at
+returns-in_err-not_own c = let h0 = c.in_ok-w.ensures in let h1 = c.in_ok-refuse_if.ensures in let e = c.in_err-not_own.ensures in rw (same_err c.from_residual-in_err-not_own.ensures.1) (search lines depth 20)
 
 pub returns : goal.returns
-unfolding read_at not_own
-returns c = search (early, c.if-g-eq1.false) depth 20
+unfolding read_at
+returns c = let h0 = c.in_ok-w.ensures in let h1 = c.in_ok-refuse_if.ensures in let h2 = c.in_ok-not_own.ensures in search lines depth 20

@@ -1,5 +1,5 @@
-use Rattle.acts.proofs.Auto.{acting}
 use Rattle.paper.specs.Process.{set_h5}
+use Rattle.acts.proofs.Auto.{acting}
 use Rattle.acts.proofs.set_h5.Goals as goal
 
 pub returns : goal.returns

@@ -1,25 +1,24 @@
-use Rattle.undo.proofs.Early.{early, t-passes, t-passes-as}
-use Rattle.undo.proofs.Leaves.{reserving}
-use Rattle.undo.proofs.Lines.{looks, reads, puts}
-use Rattle.steps.proofs.Sequence.{test, any, any-sees}
+use Rattle.undo.proofs.Auto.{lines}
+use Rattle.steps.proofs.Sequence.{same_err}
 use Rattle.acts.specs.Net.{stays}
 use Rattle.acts.proofs.stays.Goals as goal
 
-pub returns-then-go-ne0 : goal.returns-then-go-ne0
+pub returns-in_err-has_below : goal.returns-in_err-has_below
 unfolding stays
-returns-then-go-ne0 c = search (early, c.if-go-ne0.true) depth 20
+returns-in_err-has_below c = let e = c.in_err-has_below.ensures in rw (same_err c.from_residual.ensures.1) (search lines depth 20)
 
-pub returns-then-q1_for_hw : goal.returns-then-q1_for_hw
+pub returns-in_err-v : goal.returns-in_err-v
 unfolding stays
-returns-then-q1_for_hw c = search early depth 20
+returns-in_err-v c = let h0 = c.in_ok-has_below.ensures in let e = c.in_err-v.ensures in rw (same_err c.from_residual-in_err-v.ensures.1) (search lines depth 20)
 
-pub returns-then-reserved : goal.returns-then-reserved
+pub returns-in_err-refuse_if : goal.returns-in_err-refuse_if
 unfolding stays
-returns-then-reserved c = search early depth 20
+returns-in_err-refuse_if c = let h0 = c.in_ok-has_below.ensures in let h1 = c.in_ok-v.ensures in let e = c.in_err-refuse_if.ensures in rw (same_err c.from_residual-in_err-refuse_if.ensures.1) (search lines depth 20)
+
+pub returns-in_err-refuse_if-2 : goal.returns-in_err-refuse_if-2
+unfolding stays
+returns-in_err-refuse_if-2 c = let h0 = c.in_ok-has_below.ensures in let h1 = c.in_ok-v.ensures in let h2 = c.in_ok-refuse_if.ensures in let e = c.in_err-refuse_if-2.ensures in rw (same_err c.from_residual-in_err-refuse_if-2.ensures.1) (search lines depth 20)
 
 pub returns : goal.returns
 unfolding stays
-returns c =
-    looks _ (any-sees c.own-w.ensures) (test c.has_below-go.ensures (reads _ (any c.word_at-g.ensures)
-    (test (t-passes-as _ _ _ c.q1_for_hw.ensures c.if-q1_for_hw.false) (looks _ (reserving _ _ _ c.reserved.ensures)
-    (test (t-passes _ _ c.if-reserved.false) (any (puts _ c.of_fields.ensures c.put.ensures)))))))
+returns c = let h0 = c.in_ok-has_below.ensures in let h1 = c.in_ok-v.ensures in let h2 = c.in_ok-refuse_if.ensures in let h3 = c.in_ok-refuse_if-2.ensures in search lines depth 20

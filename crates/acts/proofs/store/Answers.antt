@@ -1,13 +1,16 @@
 use Rattle.undo.proofs.Auto.{lines}
-use Rattle.paper.proofs.Kit.{arith, rules}
+use Rattle.steps.proofs.Sequence.{same_err}
 use Rattle.paper.specs.Act.{store}
-use Rattle.undo.proofs.Log.{writes-most}
 use Rattle.acts.proofs.store.Goals as goal
 
-pub put-requires : goal.put-requires
-put-requires c =
-    (record { fits = omega (arith, writes-most c.args.c) }, search rules)
+pub returns-in_err-w : goal.returns-in_err-w
+unfolding store
+returns-in_err-w c = let e = c.in_err-w.ensures in rw (same_err c.from_residual.ensures.1) (search lines depth 20)
+
+pub returns-in_err-not_own : goal.returns-in_err-not_own
+unfolding store
+returns-in_err-not_own c = let h0 = c.in_ok-w.ensures in let e = c.in_err-not_own.ensures in rw (same_err c.from_residual-in_err-not_own.ensures.1) (search lines depth 20)
 
 pub returns : goal.returns
 unfolding store
-returns c = search lines depth 20
+returns c = let h0 = c.in_ok-w.ensures in let h1 = c.in_ok-not_own.ensures in search lines depth 20

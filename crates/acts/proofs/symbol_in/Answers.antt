@@ -1,7 +1,12 @@
 use Rattle.undo.proofs.Auto.{lines}
+use Rattle.steps.proofs.Sequence.{same_err}
 use Rattle.paper.specs.Act.{symbol_in}
 use Rattle.acts.proofs.symbol_in.Goals as goal
 
+pub returns-in_err-w : goal.returns-in_err-w
+unfolding symbol_in
+returns-in_err-w c = let e = c.in_err-w.ensures in rw (same_err c.from_residual.ensures.1) (search lines depth 20)
+
 pub returns : goal.returns
 unfolding symbol_in
-returns c = search lines depth 20
+returns c = let h0 = c.in_ok-w.ensures in search lines depth 20

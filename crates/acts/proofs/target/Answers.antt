@@ -1,15 +1,16 @@
+use Rattle.undo.proofs.Auto.{lines}
+use Rattle.steps.proofs.Sequence.{same_err}
 use Rattle.paper.specs.Act.{target}
-use Rattle.undo.proofs.Early.{early}
 use Rattle.acts.proofs.target.Goals as goal
 
-pub returns-then-t-ne0 : goal.returns-then-t-ne0
+pub returns-in_err-x : goal.returns-in_err-x
 unfolding target
-returns-then-t-ne0 c = search (early, c.if-t-ne0.true) depth 20
+returns-in_err-x c = let e = c.in_err-x.ensures in rw (same_err c.from_residual.ensures.1) (search lines depth 20)
 
-pub returns-then-c-eq-H3 : goal.returns-then-c-eq-H3
+pub returns-in_err-refuse_if : goal.returns-in_err-refuse_if
 unfolding target
-returns-then-c-eq-H3 c = search early depth 20
+returns-in_err-refuse_if c = let h0 = c.in_ok-x.ensures in let e = c.in_err-refuse_if.ensures in rw (same_err c.from_residual-in_err-refuse_if.ensures.1) (search lines depth 20)
 
 pub returns : goal.returns
 unfolding target
-returns c = search (early, c.if-c-eq-H3.false) depth 20
+returns c = let h0 = c.in_ok-x.ensures in let h1 = c.in_ok-refuse_if.ensures in search lines depth 20

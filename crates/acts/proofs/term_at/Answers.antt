@@ -1,10 +1,6 @@
-use Rattle.paper.specs.Act.{term_at, as_term}
+use Rattle.paper.specs.Act.{as_term, term_at}
 use Rattle.acts.proofs.Used.{touching}
 use Rattle.acts.proofs.term_at.Goals as goal
-
-pub returns-then-go-ne0 : goal.returns-then-go-ne0
-unfolding term_at as_term
-returns-then-go-ne0 c = search (touching, c.if-go-ne0.true) depth 20
 
 pub returns-then-c-eq0 : goal.returns-then-c-eq0
 unfolding term_at as_term

@@ -1,19 +1,16 @@
+use Rattle.undo.proofs.Auto.{lines}
+use Rattle.steps.proofs.Sequence.{same_err}
 use Rattle.paper.specs.Act.{touch}
-use Rattle.undo.proofs.Early.{early}
 use Rattle.acts.proofs.touch.Goals as goal
 
-pub returns-then-go-ne0 : goal.returns-then-go-ne0
+pub returns-in_err-refuse_if : goal.returns-in_err-refuse_if
 unfolding touch
-returns-then-go-ne0 c = search (early, c.if-go-ne0.true) depth 20
+returns-in_err-refuse_if c = let e = c.in_err-refuse_if.ensures in rw (same_err c.from_residual.ensures.1) (search lines depth 20)
 
-pub returns-then-c-eq0 : goal.returns-then-c-eq0
+pub returns-in_err-refuse_if-2 : goal.returns-in_err-refuse_if-2
 unfolding touch
-returns-then-c-eq0 c = search early depth 20
-
-pub returns-then-is_free : goal.returns-then-is_free
-unfolding touch
-returns-then-is_free c = search (early, c.if-c-eq0.false) depth 20
+returns-in_err-refuse_if-2 c = let h0 = c.in_ok-refuse_if.ensures in let e = c.in_err-refuse_if-2.ensures in rw (same_err c.from_residual-in_err-refuse_if-2.ensures.1) (search lines depth 20)
 
 pub returns : goal.returns
 unfolding touch
-returns c = search (early, c.if-c-eq0.false) depth 20
+returns c = let h0 = c.in_ok-refuse_if.ensures in let h1 = c.in_ok-refuse_if-2.ensures in search lines depth 20

@@ -1,10 +1,6 @@
-use Rattle.paper.specs.Act.{word_at, as_word}
+use Rattle.paper.specs.Act.{as_word, word_at}
 use Rattle.acts.proofs.Used.{touching}
 use Rattle.acts.proofs.word_at.Goals as goal
-
-pub returns-then-go-ne0 : goal.returns-then-go-ne0
-unfolding word_at as_word
-returns-then-go-ne0 c = search (touching, c.if-go-ne0.true) depth 20
 
 pub returns-then-c-eq0 : goal.returns-then-c-eq0
 unfolding word_at as_word
