@@ -7,15 +7,13 @@ use Rattle.paper.specs.declared.Refusal.TheVariants.{NotListed}
 use Rattle.paper.specs.Cell.{State, J}
 use Rattle.paper.specs.Act.{Act}
 use Rattle.paper.specs.Process.{Next, then as and_then, goes_on, then_on, Entry, one, ten, listed, perform}
-use Rattle.steps.specs.Follows.{Follows, World, seen_as}
+use Rattle.steps.specs.Follows.{Follows, World}
+use Rattle.acts.specs.GoesOn.{going_on}
 use Rattle.steps.proofs.Rest as last_arm
 use Rattle.steps.proofs.Listed.{entry_for, none_for, entry-does, none-does}
 use Rattle.steps.proofs.Sequence.{then, then_err, give, alike, most, under, stop}
 
 -- a block after which control goes on
-abbrev pub going_on : Result (Unit {0}) Refusal → Result Next Refusal
-going_on r = seen_as (λ x. and_then goes_on) r
-
 pub goes_under : {W : World State Refusal} {K : W.Rest → Type 0} {k : ℕ} {M : Act (Unit {0})} {x y : W.Held} (r : Result (Unit {0}) Refusal)
     → Follows W K k M x y r → Follows W K k (then_on M) x y (going_on r)
 unfolding then_on
