@@ -1,5 +1,5 @@
 -- The cell of a regional symbol: along the regions of a table from number i on, and by letter.
-use Rattle.paper.proofs.Kit.{ℕ, ◌+◌, ◌<◌, ◌≤◌, Bool, true, false, cond, List, [], ◌∷◌, ◌≡◌, sym, ◌∙◌, arith, lt-ltb, le-ltb, eq-eqb, ne_eqb, eqb, ltb, length}
+use Rattle.paper.proofs.Kit.{ℕ, ◌+◌, ◌<◌, ◌≤◌, Bool, true, false, cond, List, [], ◌∷◌, ◌≡◌, sym, arith, eq-eqb, ne_eqb, eqb, ltb, length}
 use Rattle.paper.proofs.Kit.{get_or}
 use Rattle.paper.specs.Limits.{largest_n, first_deck}
 use Rattle.paper.specs.Region.{Region, end_of_regions, H, W, J, cell_from, cell_of}
@@ -24,15 +24,9 @@ pub more-fits : (r : Regions) (i : ℕ) → i < length (regions_of r) → (from 
 more-fits r i here from k counts h = omega (arith, end_more r i here from k counts, past-start (rest r (i + 1)) (from + k))
 
 module _ (r : Regions) (i : ℕ) (here : i < length (regions_of r)) (from k b n : ℕ) (counts : k ≡ get_or r.counts i 0) where
-  hit : get_or r.letters i 0 ≡ b → cell_from (rest r i) from b n ≡ cond (ltb n k) (from + n) 0
+  pub deck-here : get_or r.letters i 0 ≡ b → cell_from (rest r i) from b n ≡ cond (ltb n k) (from + n) 0
   unfolding cell_from
-  hit e = rw (rest_more r i here, counts) (yes-there (eqb (get_or r.letters i 0) b) _ _ (eq-eqb (get_or r.letters i 0) b e))
-
-  pub deck-here : get_or r.letters i 0 ≡ b → n < k → cell_from (rest r i) from b n ≡ from + n
-  deck-here e h = hit e ∙ rw (lt-ltb n k h)
-
-  pub deck-past : get_or r.letters i 0 ≡ b → k ≤ n → cell_from (rest r i) from b n ≡ 0
-  deck-past e h = hit e ∙ rw (le-ltb n k h)
+  deck-here e = rw (rest_more r i here, counts) (yes-there (eqb (get_or r.letters i 0) b) _ _ (eq-eqb (get_or r.letters i 0) b e))
 
   pub deck-more : (get_or r.letters i 0 ≡ b → ⊥) → cell_from (rest r (i + 1)) (from + k) b n ≡ cell_from (rest r i) from b n
   unfolding cell_from

@@ -1,7 +1,8 @@
 -- The table as a run lends it: the name of a cell, row by row, and that it tells the regions.
 use Rattle.paper.proofs.Kit.{ℕ, zero, suc, ◌+◌, ◌-◌, ◌*◌, ◌/◌, ◌%◌, ◌<◌, ◌≤◌, Bool, true, false, List, [], ◌∷◌, Option, none, some, ◌≡◌, refl, ap, sym, ◌∙◌}
 use Rattle.paper.proofs.Kit.{add-one, arith, lt-ltb, le-ltb, eq-eqb, ne_eqb, eqb-true, eqb-false, ltb-true, ltb-false, eqb, ltb, length, get_or, drop, set}
-use Rattle.paper.proofs.Kit.{replicate, length-set, get_or-set_same, get_or-set_other}
+use Rattle.std.proofs.lemmas.Grind.{get_or_after_one}
+use Rattle.paper.proofs.Kit.{take, get_or-take, replicate, length-set, get_or-set_same, get_or-set_other}
 use Rattle.paper.specs.Limits.{first_deck}
 use Rattle.paper.specs.Region.{Region, region_of, H, W, J, layout, end_of_regions, letters_from, letters_of}
 use Rattle.regions.specs.declared.Regions.{Regions}
@@ -46,6 +47,10 @@ module _ (t : List ℕ) (i at c : ℕ) (from : at ≤ c) where
   pub row-none : 24 ≤ i → none ≡ letters_from (rows_left t i) at c
   unfolding letters_from
   row-none h = rw (rows_none t i h)
+
+-- the rows as the code has them in a row
+pub row_of : (t : List ℕ) (i : ℕ) → i < 23 → get_or (take 23 (drop 1 t)) i 0 ≡ get_or t (i + 1) 0
+row_of t i h = get_or-take 23 (drop 1 t) i 0 h ∙ get_or_after_one t i 0 ∙ ap (λ (j : ℕ). get_or t j 0) (omega arith)
 
 -- by range: H, W and J are the first regions of the layout
 module _ (rs : List Region) (c : ℕ) where

@@ -10,12 +10,9 @@ unfolding rows_from
 rows-length r i zero = refl
 rows-length r i (suc k) = ap suc (rows-length r (suc i) k)
 
-held : (r : Regions) → length (regions_of r) ≡ min r.n 23
+pub held : (r : Regions) → length (regions_of r) ≡ min r.n 23
 unfolding regions_of
 held r = rows-length r 0 (min r.n 23)
-
-pub few : (r : Regions) → r.n < 23 → r.n ≡ length (regions_of r)
-few r h = sym (held r ∙ min-eq_left (omega arith))
 
 pub full : (r : Regions) → 23 ≤ r.n → 23 ≡ length (regions_of r)
 full r h = sym (held r ∙ min-eq_right h)

@@ -1,11 +1,9 @@
 -- The region table as a run lends it: place 0 is where the regions end, and each place after it a row, letter * 65536 + count. Rows of 0
 -- name no cell, so there may be more rows than regions.
-use Rattle.std.specs.Prelude.{ℕ, zero, suc, ◌/◌, ◌%◌, ◌^◌, ◌<◌, ◌≡◌, List, [], ◌∷◌, length, get_or}
+use Rattle.std.specs.Prelude.{Option as Answer, Some, None, ℕ, zero, suc, ◌/◌, ◌%◌, ◌^◌, ◌<◌, ◌≡◌, List, [], ◌∷◌, length, get_or}
 use Rattle.std.proofs.Math.Option.{Option, none, some}
 use Rattle.paper.specs.Limits.{first_deck}
 use Rattle.paper.specs.Region.{Region, region_of, end_of_regions, letters_of}
-use Rattle.regions.specs.declared.Named.{Named}
-use Rattle.regions.specs.declared.Named.TheVariants.{As, Nothing}
 
 -- the region of a row; a letter is a byte
 abbrev pub region_in : ℕ → Region
@@ -32,6 +30,6 @@ pub record Told (t : List ℕ) : Type 0 where
   pub tells : Tells t regions
 
 -- letter and number, as the definitions have them
-abbrev pub letters_in : Named → Option (ℕ × ℕ)
-letters_in (As b n) = some (b, n)
-letters_in Nothing = none
+abbrev pub letters_in : Answer (ℕ × ℕ) → Option (ℕ × ℕ)
+letters_in (Some x) = some x
+letters_in None = none

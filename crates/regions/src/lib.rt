@@ -27,7 +27,8 @@ pub type Table = [u32; PLACES];
 
 const PLACES: usize = 1 + limits::MANY_REGIONS;
 
-// Letter and count of the first n deck regions, in record order. There are 23 letters besides H, W and J.
+// Letter and count of the first n deck regions, in record order. There are 23 letters besides H, W and J. The arrays and n lie open, since a
+// caller of a run may hand in any, n above 23 and letters that repeat among them, and `regions_sound` answers for all of these.
 #[derive(Clone, Copy)]
 pub struct Regions {
     pub letters: [u8; limits::MANY_REGIONS],
@@ -63,22 +64,16 @@ impl Regions {
     pub fn len(self) -> usize
         ensures { (result ≡ length (regions_of self)) × (result ≤ 23) }
     {
-        if self.n < limits::MANY_REGIONS {
-            return self.n;
-        }
-        limits::MANY_REGIONS
+        self.n.min(limits::MANY_REGIONS)
     }
 
     // Where the regions end, laid out from the first deck cell.
     pub fn top(self) -> usize
         ensures { result ≡ end_of_regions (regions_of self) first_deck }
     {
-        let m = self.len();
         let mut at = FIRST_DECK;
-        let mut i = 0;
-        while i < m {
-            at += wide(self.counts[i]);
-            i += 1;
+        for &count in &self.counts[..self.len()] {
+            at += usize::from(count);
         }
         at
     }
@@ -87,37 +82,26 @@ impl Regions {
     pub fn letter_taken(self, b: u8, from: usize) -> bool
         ensures { result ≡ letter_taken (layout (drop from (regions_of self))) b }
     {
-        let m = self.len();
-        let mut i = from;
-        while i < m {
-            if self.letters[i] == b {
-                return true;
-            }
-            i += 1;
-        }
-        (b == b'H') | (b == b'W') | (b == b'J')
+        let letters = &self.letters[..self.len()];
+        matches!(b, b'H' | b'W' | b'J') || letters.iter().skip(from).any(|&letter| letter == b)
     }
 
     // Whether a region before those from number `from` on may have letter b.
     fn letter_new(self, b: u8, from: usize) -> bool
         ensures { result ≡ new_letter b (drop from (regions_of self)) }
     {
-        (b'A' <= b) & (b <= b'Z') & !self.letter_taken(b, from)
+        b.is_ascii_uppercase() && !self.letter_taken(b, from)
     }
 
     // Whether the regions are sound in n cells.
     pub fn regions_sound(self, n: usize) -> bool
         ensures { result ≡ regions_sound n first_deck (regions_of self) }
     {
-        let m = self.len();
         let mut at = FIRST_DECK;
-        let mut i = 0;
-        while i < m {
-            let letter = self.letters[i];
-            let count = wide(self.counts[i]);
+        for i in 0..self.len() {
+            let count = usize::from(self.counts[i]);
             at += count;
-            i += 1;
-            if !(self.letter_new(letter, i)
+            if !(self.letter_new(self.letters[i], i + 1)
                 & (1 <= count)
                 & (count <= LARGEST_NUMBER)
                 & (at <= n))
@@ -133,19 +117,13 @@ impl Regions {
         requires { Laid self }
         ensures { result ≡ cell_from (regions_of self) first_deck b n }
     {
-        let m = self.len();
-        let mut from = FIRST_DECK;
-        let mut i = 0;
-        while i < m {
+        let mut from = limits::FIRST_DECK;
+        for i in 0..self.len() {
             let count = self.counts[i];
             if self.letters[i] == b {
-                if n < count {
-                    return (from + wide(n)) as u16;
-                }
-                return 0;
+                return inside(n, count, from);
             }
-            from += wide(count);
-            i += 1;
+            from += count;
         }
         0
     }
@@ -167,25 +145,16 @@ impl Regions {
     pub fn table(self) -> Table
         ensures { Tells result (regions_of self) }
     {
-        let m = self.len();
         let mut t = [0u32; PLACES];
         let mut at = FIRST_DECK;
-        let mut i = 0;
-        while i < m {
+        for i in 0..self.len() {
             let count = self.counts[i];
             t[i + 1] = row(self.letters[i], count);
-            at += wide(count);
-            i += 1;
+            at += usize::from(count);
         }
         t[0] = at as u32;
         t
     }
-}
-
-fn wide(x: u16) -> usize
-    ensures { (result ≡ x) × (result < 65536) }
-{
-    x as usize
 }
 
 // Number n of a region of `count` cells from cell `from` on.
@@ -193,10 +162,7 @@ fn inside(n: u16, count: u16, from: u16) -> u16
     requires { from + count < 65536 }
     ensures { result ≡ cond (ltb n count) (from + n) 0 }
 {
-    if n < count {
-        return from + n;
-    }
-    0
+    if n < count { from + n } else { 0 }
 }
 
 fn row(letter: u8, count: u16) -> u32
@@ -205,47 +171,31 @@ fn row(letter: u8, count: u16) -> u32
     (letter as u32) * 65536 + (count as u32)
 }
 
-// Letter and number of a reserved cell.
-#[derive(Clone, Copy)]
-pub enum Named {
-    As(u8, u16),
-    Nothing,
-}
-
-// A cell from the first deck cell on.
-fn in_rows(table: &Table, c: u16) -> Named
+// Letter and number of a cell from the first deck cell on; none where it is not reserved.
+fn in_rows(table: &Table, c: u16) -> Option<(u8, u16)>
     requires { first_deck ≤ c }
     ensures { letters_in result ≡ letters_from (rows_of table.now) first_deck c }
 {
     let mut at = limits::FIRST_DECK;
-    let mut i = 1;
-    while i < PLACES {
-        let x = table[i];
+    for &x in &table[1..] {
         let count = (x % 65536) as u16;
         if c - at < count {
-            return Named::As((x / 65536 % 256) as u8, c - at);
+            return Some(((x / 65536 % 256) as u8, c - at));
         }
         at += count;
-        i += 1;
     }
-    Named::Nothing
+    None
 }
 
-// "H0..H9 are cells 1..10, W0..W9 are 11..20, J0..J199 are 21..220", and then the deck's.
-pub fn letters_of(table: &Table, c: u16) -> Named
+// "H0..H9 are cells 1..10, W0..W9 are 11..20, J0..J199 are 21..220", and then the deck's: letter and number of a reserved cell.
+pub fn letters_of(table: &Table, c: u16) -> Option<(u8, u16)>
     ensures { letters_in result ≡ letters_of (rows_of table.now) c }
 {
-    if c == 0 {
-        return Named::Nothing;
+    match c {
+        0 => None,
+        limits::H0..limits::W0 => Some((b'H', c - limits::H0)),
+        limits::W0..limits::J0 => Some((b'W', c - limits::W0)),
+        limits::J0..limits::FIRST_DECK => Some((b'J', c - limits::J0)),
+        _ => in_rows(table, c),
     }
-    if c < limits::W0 {
-        return Named::As(b'H', c - limits::H0);
-    }
-    if c < limits::J0 {
-        return Named::As(b'W', c - limits::W0);
-    }
-    if c < limits::FIRST_DECK {
-        return Named::As(b'J', c - limits::J0);
-    }
-    in_rows(table, c)
 }

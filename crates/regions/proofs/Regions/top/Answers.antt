@@ -1,15 +1,16 @@
-use Rattle.paper.proofs.Kit.{refl, ◌∙◌, arith, rules}
+use Rattle.paper.proofs.Kit.{ℕ, ◌∙◌, ◌<◌, arith, rules, get_or-take}
+use Rattle.std.proofs.lemmas.List.{length-take}
 use Rattle.regions.proofs.RegionLaws.{end_more, end_none}
 use Rattle.regions.proofs.Regions.top.Goals as goal
 
-pub loop-i-init : goal.loop-i-init
-loop-i-init c = (search rules, search rules, refl)
-
-pub loop-i-preserved : goal.loop-i-preserved
-loop-i-preserved c =
-    let l = c.loop-i in
+pub loop-count-preserved : goal.loop-count-preserved
+loop-count-preserved c =
+    let l = c.loop-count in
     let r = c.args.self in
-    (search rules, search rules, end_more r l.i (omega arith) _ _ c.wide-at.ensures.0 ∙ l.invariant.2)
+    let h : l.count-index < c.len.result = omega (arith, length-take {A = ℕ}) in
+    (search rules, end_more r l.count-index (omega arith) _ _ (c.from-at.ensures ∙ get_or-take _ r.counts _ 0 h) ∙ l.invariant.1)
 
 pub returns : goal.returns
-returns c = let l = c.loop-i in end_none c.args.self l.i (omega arith) _ ∙ l.invariant.2
+returns c =
+    let l = c.loop-count in
+    end_none c.args.self l.count-index (omega (arith, length-take {A = ℕ})) _ ∙ l.invariant.1
