@@ -12,8 +12,7 @@ use Rattle.cells.specs.Bridge.{unpacked, cell_in}
 use Rattle.cells.specs.Pack.{pack_of, AllFormed}
 use Rattle.cells.proofs.Store.{unpacked-length}
 use Rattle.regions.specs.declared.Regions.{Regions}
-use Rattle.sound.specs.declared.Pass.{Pass}
-use Rattle.sound.specs.declared.Pass.TheVariants.{Unsound, Free}
+use Rattle.std.specs.Prelude.{Option, Some, None}
 use Rattle.regions.specs.Table.{regions_of}
 use Rattle.sound.specs.Store.{formed, all_formed, pass_of, state_with, store_sound}
 use Rattle.sound.proofs.NumberLaws.{zero_is}
@@ -24,13 +23,13 @@ regroup true true r z c l = and_assoc (r && z) c l
 regroup true false r z c l = sym (and-false (r && z))
 regroup false f r z c l = refl
 
-pass-unsound : (b : Bool) (n : ℕ) → cond b (Free n) Unsound ≡ Unsound → b ≡ false
-pass-unsound true n e = clash cc
-pass-unsound false n e = refl
+pass-none : (b : Bool) (n : ℕ) → cond b (Some n) None ≡ None → b ≡ false
+pass-none true n e = clash cc
+pass-none false n e = refl
 
-pass-free : (b : Bool) (n k : ℕ) → cond b (Free n) Unsound ≡ Free k → (b ≡ true) × (n ≡ k)
-pass-free true n k e = (refl, cc)
-pass-free false n k e = clash cc
+pass-some : (b : Bool) (n k : ℕ) → cond b (Some n) None ≡ Some k → (b ≡ true) × (n ≡ k)
+pass-some true n k e = (refl, cc)
+pass-some false n k e = clash cc
 
 module _ (r : Regions) (s : List ℕ) where
   abbrev end : ℕ
@@ -57,16 +56,16 @@ module _ (r : Regions) (s : List ℕ) where
   from_first t f x e g h = rw (← h, e, zero_is x, ← g) (sym whole)
 
   -- the pass, with the answer t, where the reserved cells end at k
-  module _ (t : Pass) (k : ℕ) (ends : k ≡ end) (pass : t ≡ pass_of k s) where
-    found : cond passed (Free (free_count (unpacked s))) Unsound ≡ t
+  module _ (t : Option ℕ) (k : ℕ) (ends : k ≡ end) (pass : t ≡ pass_of k s) where
+    found : cond passed (Some (free_count (unpacked s))) None ≡ t
     unfolding pass_of
     found = sym (pass ∙ ap (λ (j : ℕ). pass_of j s) ends)
 
-    pub at-unsound : t ≡ Unsound → false ≡ (passed && listed (free_count (unpacked s)))
-    at-unsound e = rw (pass-unsound passed (free_count (unpacked s)) (found ∙ e))
+    pub at-none : t ≡ None → false ≡ (passed && listed (free_count (unpacked s)))
+    at-none e = rw (pass-none passed (free_count (unpacked s)) (found ∙ e))
 
-    pub at-free : (n : ℕ) → t ≡ Free n → listed n ≡ (passed && listed (free_count (unpacked s)))
-    at-free n e = let d = pass-free passed (free_count (unpacked s)) n (found ∙ e) in rw (d.0, d.1)
+    pub at-some : (n : ℕ) → t ≡ Some n → listed n ≡ (passed && listed (free_count (unpacked s)))
+    at-some n e = let d = pass-some passed (free_count (unpacked s)) n (found ∙ e) in rw (d.0, d.1)
 
 -- what a store that passes is to its callers: its numbers are formed, and the state that it stands for is sound, whatever its lines and room
 formed-all : (s : List ℕ) → all_formed s ≡ true → AllFormed s

@@ -1,12 +1,12 @@
 -- The two loops over the cells, turn by turn.
-use Rattle.paper.proofs.Kit.{◌||◌, ℕ, zero, suc, ◌+◌, ◌-◌, ◌<◌, ◌≤◌, Bool, true, false, cond, ◌&&◌, not, and-false, List, ◌≡◌, refl, sym, add-one, arith, eqb}
+use Rattle.paper.proofs.Kit.{◌||◌, ℕ, zero, suc, ◌+◌, ◌<◌, ◌≤◌, Bool, true, false, cond, ◌&&◌, not, and-false, List, ◌≡◌, refl, sym, add-one, arith, eqb}
 use Rattle.paper.proofs.Kit.{length, get_or, drop, drop_of_length-le, List·getD-map, drop-cons}
 use mir.Val.{bool_byte}
 use Rattle.paper.specs.Cell.{Cell, free, word, term, process, zeros, is_free, free_link}
 use Rattle.paper.specs.Sound.{cell_sound, cells_sound, free_count, free_list}
 use Rattle.cells.specs.Layout.{unpack_of}
 use Rattle.cells.specs.Bridge.{unpacked}
-use Rattle.sound.specs.declared.Pass.TheVariants.{Unsound, Free}
+use Rattle.std.specs.Prelude.{Some, None}
 use Rattle.sound.specs.Store.{formed, all_formed, number_sound, pass_of}
 
 -- what one pass finds from cell c on
@@ -73,13 +73,11 @@ follow k c cs (term t) = follow-other (eqb c 0) (free_list k cs 0)
 follow k c cs process = follow-other (eqb c 0) (free_list k cs 0)
 
 -- one cell of the list: it is no free cell, or the list goes on at its link
-pub list-turn : (s : List ℕ) (left c x l : ℕ) (t f : Bool) → 0 < left → x ≡ get_or s c 0 → t ≡ is_free (unpack_of x) → free_link (unpack_of x) ≡ l
-    → (eqb c 0 || not t) ≡ f → cond f false (free_list (left - 1) (unpacked s) l) ≡ free_list left (unpacked s) c
+pub list-turn : (s : List ℕ) (left rest c x l : ℕ) (t f : Bool) → left ≡ suc rest → x ≡ get_or s c 0 → t ≡ is_free (unpack_of x) → free_link (unpack_of x) ≡ l
+    → (eqb c 0 || not t) ≡ f → cond f false (free_list rest (unpacked s) l) ≡ free_list left (unpacked s) c
 unfolding free_list
-list-turn s zero c x l t f o d e g h = absurd (omega arith)
-list-turn s (suc k) c x l t f o d e g h =
-    let p : suc k - 1 ≡ k = omega arith in
-    rw (p, ← h, ← g, e, d, ← (at-number s c)) (follow k c (unpacked s) (get_or (unpacked s) c (word zeros)))
+list-turn s left rest c x l t f o d e g h =
+    rw (o, ← h, ← g, e, d, ← (at-number s c)) (follow rest c (unpacked s) (get_or (unpacked s) c (word zeros)))
 
 pub list-end : (s : List ℕ) (left c : ℕ) → left ≤ 0 → eqb c 0 ≡ free_list left (unpacked s) c
 unfolding free_list
@@ -87,10 +85,10 @@ list-end s zero c h = refl
 list-end s (suc k) c h = absurd (omega arith)
 
 -- the answer of the pass, from what it found
-pub pass-no : (s : List ℕ) (end : ℕ) → passes (length s) end 0 s ≡ false → Unsound ≡ pass_of end s
+pub pass-no : (s : List ℕ) (end : ℕ) → passes (length s) end 0 s ≡ false → None ≡ pass_of end s
 unfolding pass_of
 pass-no s end e = rw e
 
-pub pass-yes : (s : List ℕ) (end k : ℕ) → passes (length s) end 0 s ≡ true → k ≡ free_count (unpacked s) → Free k ≡ pass_of end s
+pub pass-yes : (s : List ℕ) (end k : ℕ) → passes (length s) end 0 s ≡ true → k ≡ free_count (unpacked s) → Some k ≡ pass_of end s
 unfolding pass_of
 pass-yes s end k e h = rw (e, h)

@@ -1,5 +1,5 @@
 -- What a call asks of the lent numbers and a table before it does anything. Numbers or a table out of form are 20 too.
-use Rattle.std.specs.Prelude.{ℕ, ◌≡◌, true, false, List, length}
+use Rattle.std.specs.Prelude.{ℕ, ◌≡◌, true, false, List, length, Result, Ok, Err}
 use Rattle.std.proofs.Math.Option.{Option, none, some}
 use Rattle.paper.specs.declared.RunAnswer.{RunAnswer}
 use Rattle.paper.specs.declared.RunAnswer.TheVariants.{BadSize, NotSound}
@@ -7,8 +7,6 @@ use Rattle.paper.specs.Limits.{first_deck}
 use Rattle.paper.specs.Cell.{end_of_regions, size_fits}
 use Rattle.regions.specs.declared.Regions.{Regions}
 use Rattle.regions.specs.Table.{regions_of}
-use Rattle.sound.specs.declared.Asked.{Asked}
-use Rattle.sound.specs.declared.Asked.TheVariants.{Top, Not}
 use Rattle.sound.specs.Store.{store_sound}
 
 -- 1: "N out of range"; 20: "store not sound"
@@ -25,6 +23,6 @@ pub record Passed (r : Regions) (s : List ℕ) (top : ℕ) : Type 0 where
   pub sound : store_sound r s ≡ true
   pub end : end_of_regions (regions_of r) first_deck ≡ top
 
-abbrev pub Asks : Regions → List ℕ → Asked → Type 0
-Asks r s (Top top) = Passed r s top
-Asks r s (Not a) = unfit r s ≡ some a
+abbrev pub Asks : Regions → List ℕ → Result ℕ RunAnswer → Type 0
+Asks r s (Ok top) = Passed r s top
+Asks r s (Err a) = unfit r s ≡ some a

@@ -1,13 +1,11 @@
 -- Soundness of the lent numbers and a table: both in form, and the store that they are sound (paper/specs/Sound).
-use Rattle.std.specs.Prelude.{ℕ, Bool, true, cond, ◌&&◌, List, [], ◌∷◌, eqb, leb, length}
+use Rattle.std.specs.Prelude.{ℕ, Bool, Option, Some, None, true, cond, ◌&&◌, List, [], ◌∷◌, eqb, leb, length}
 use Rattle.paper.specs.Cell.{term_fits, State}
 use Rattle.paper.specs.Sound.{takes_term, cell_sound, cells_sound, free_count, sound}
 use Rattle.cells.specs.Layout.{unpack_of, term_of}
 use Rattle.cells.specs.Pack.{pack_of}
 use Rattle.cells.specs.Bridge.{unpacked, state_of}
 use Rattle.regions.specs.declared.Regions.{Regions}
-use Rattle.sound.specs.declared.Pass.{Pass}
-use Rattle.sound.specs.declared.Pass.TheVariants.{Unsound, Free}
 use Rattle.regions.specs.Table.{regions_of}
 
 -- x is the number of a cell: no bit is set that its kind does not use
@@ -33,5 +31,5 @@ term_sound c x = formed x && (takes_term c (term_of x) && term_fits (term_of x))
 unfoldable pub number_sound : ℕ → ℕ → ℕ → ℕ → Bool
 number_sound n end c x = formed x && cell_sound n end c (unpack_of x)
 
-unfoldable pub pass_of : ℕ → List ℕ → Pass
-pass_of end s = cond (all_formed s && cells_sound (length s) end 0 (unpacked s)) (Free (free_count (unpacked s))) Unsound
+unfoldable pub pass_of : ℕ → List ℕ → Option ℕ
+pass_of end s = cond (all_formed s && cells_sound (length s) end 0 (unpacked s)) (Some (free_count (unpacked s))) None

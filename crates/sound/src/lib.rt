@@ -21,13 +21,6 @@ const FIRST_DECK: usize = limits::FIRST_DECK as usize;
 
 const LARGEST_P: u64 = limits::LARGEST_P as u64;
 
-// What one pass over the cells finds.
-#[derive(Clone, Copy)]
-enum Pass {
-    Unsound,
-    Free(usize),
-}
-
 // "every number is below N, P is at most 7, Q is 0, 1, 2 or 4"; "Words in H and W cells have Q 0, 2 or 4."
 fn word_sound(x: u64, n: usize, c: usize) -> bool
     ensures { result ≡ word_sound n c (word_of x) }
@@ -69,22 +62,18 @@ fn number_sound(x: u64, n: usize, end: usize, c: usize) -> bool
     (x == cells::PROCESS) & (J0 <= c) & (c < FIRST_DECK)
 }
 
-// One pass: whether each number is that of a sound cell, and how many cells are free.
-fn cells_sound(cells: &[u64], end: usize) -> Pass
+// One pass: how many cells are free, or none where a number is not that of a sound cell.
+fn cells_sound(cells: &[u64], end: usize) -> Option<usize>
     ensures { result ≡ pass_of end cells.now }
 {
-    let n = cells.len();
     let mut free = 0;
-    let mut c = 0;
-    while c < n {
-        let x = cells[c];
-        if !number_sound(x, n, end, c) {
-            return Pass::Unsound;
+    for (c, &x) in cells.iter().enumerate() {
+        if !number_sound(x, cells.len(), end, c) {
+            return None;
         }
-        free += cells::is_free(x) as usize;
-        c += 1;
+        free += usize::from(cells::is_free(x));
     }
-    Pass::Free(free)
+    Some(free)
 }
 
 // "H2's LINK starts the free list."
@@ -98,25 +87,20 @@ fn free_start(cells: &[u64]) -> usize
 fn number_at(cells: &[u64], c: usize) -> u64
     ensures { result ≡ get_or cells.now c 0 }
 {
-    if c < cells.len() {
-        return cells[c];
-    }
-    0
+    cells.get(c).copied().unwrap_or(0)
 }
 
 // Whether the list from cell `start` meets k free cells and then ends in 0.
 fn free_list(cells: &[u64], k: usize, start: usize) -> bool
     ensures { result ≡ free_list k (unpacked cells.now) start }
 {
-    let mut left = k;
     let mut c = start;
-    while 0 < left {
+    for _ in 0..k {
         let x = number_at(cells, c);
         if (c == 0) | !cells::is_free(x) {
             return false;
         }
-        c = cells::free_link(x) as usize;
-        left -= 1;
+        c = usize::from(cells::free_link(x));
     }
     c == 0
 }
@@ -130,8 +114,8 @@ pub fn sound(cells: &[u64], regions: Regions) -> bool
         return false;
     }
     match cells_sound(cells, regions.top()) {
-        Pass::Unsound => false,
-        Pass::Free(k) => free_list(cells, k, free_start(cells)),
+        None => false,
+        Some(k) => free_list(cells, k, free_start(cells)),
     }
 }
 
@@ -142,22 +126,15 @@ pub fn size_fits(n: usize) -> bool
     (limits::SMALLEST_N <= n) & (n <= limits::LARGEST_N)
 }
 
-// Where the regions of a sound store end, or the answer.
-#[derive(Clone, Copy)]
-pub enum Asked {
-    Top(u16),
-    Not(RunAnswer),
-}
-
-// What a run and a plain call ask of a store first: 1, "N out of range", then 20, "store not sound".
-pub fn asks(cells: &[u64], regions: Regions) -> Asked
+// What a run and a plain call ask of a store first: 1, "N out of range", then 20, "store not sound". Of a sound store, where its regions end.
+pub fn asks(cells: &[u64], regions: Regions) -> Result<u16, RunAnswer>
     ensures { Asks regions cells.now result }
 {
     if !size_fits(cells.len()) {
-        return Asked::Not(RunAnswer::BadSize);
+        return Err(RunAnswer::BadSize);
     }
     if !sound(cells, regions) {
-        return Asked::Not(RunAnswer::NotSound);
+        return Err(RunAnswer::NotSound);
     }
-    Asked::Top(regions.top() as u16)
+    Ok(regions.top() as u16)
 }
