@@ -1,6 +1,8 @@
 -- The cell of a regional symbol: along the regions of a table from number i on, and by letter.
 use Rattle.paper.proofs.Kit.{ℕ, ◌+◌, ◌<◌, ◌≤◌, Bool, true, false, cond, List, [], ◌∷◌, ◌≡◌, sym, arith, eq-eqb, ne_eqb, eqb, ltb, length}
 use Rattle.paper.proofs.Kit.{get_or}
+use Rattle.std.proofs.lemmas.List.{length-take}
+use Rattle.paper.proofs.Kit.{take, get_or-take, ◌∙◌}
 use Rattle.paper.specs.Limits.{largest_n, first_deck}
 use Rattle.paper.specs.Region.{Region, end_of_regions, H, W, J, cell_from, cell_of}
 use Rattle.regions.specs.declared.Regions.{Regions}
@@ -22,6 +24,18 @@ not_there t x y e = rw e
 pub more-fits : (r : Regions) (i : ℕ) → i < length (regions_of r) → (from k : ℕ) → k ≡ get_or r.counts i 0 → end_of_regions (rest r i) from ≤ largest_n
     → from + k ≤ largest_n
 more-fits r i here from k counts h = omega (arith, end_more r i here from k counts, past-start (rest r (i + 1)) (from + k))
+
+-- number i of letters and counts that go side by side
+pub record Pair (r : Regions) (i b k : ℕ) : Type 0 where
+  pub here : i < length (regions_of r)
+  pub letter : b ≡ get_or r.letters i 0
+  pub count : k ≡ get_or r.counts i 0
+
+pub pair_at : (r : Regions) (m i b k : ℕ) → m ≡ length (regions_of r)
+    → (i < length r.letters) × (i < length (take m r.counts)) × ((d : ℕ) → b ≡ get_or r.letters i d) × ((d : ℕ) → k ≡ get_or (take m r.counts) i d) → Pair r i b k
+pair_at r m i b k e t =
+    let h : i < m = omega (arith, length-take {A = ℕ}) in
+    record { here = omega arith; letter = t.2 0; count = t.3 0 ∙ get_or-take m r.counts i 0 h }
 
 module _ (r : Regions) (i : ℕ) (here : i < length (regions_of r)) (from k b n : ℕ) (counts : k ≡ get_or r.counts i 0) where
   pub deck-here : get_or r.letters i 0 ≡ b → cell_from (rest r i) from b n ≡ cond (ltb n k) (from + n) 0

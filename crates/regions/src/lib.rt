@@ -118,9 +118,8 @@ impl Regions {
         ensures { result ≡ cell_from (regions_of self) first_deck b n }
     {
         let mut from = limits::FIRST_DECK;
-        for i in 0..self.len() {
-            let count = self.counts[i];
-            if self.letters[i] == b {
+        for (&letter, &count) in self.letters.iter().zip(&self.counts[..self.len()]) {
+            if letter == b {
                 return inside(n, count, from);
             }
             from += count;
