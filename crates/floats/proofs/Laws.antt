@@ -12,7 +12,7 @@ use Rattle.std.specs.declared.cmp.Ordering.{Ordering}
 use Rattle.std.specs.declared.cmp.Ordering.TheVariants.{Less, Equal, Greater}
 use Rattle.std.proofs.lemmas.Float.{lt_irrefl, lt_trans, eq_flip, eq-not_lt}
 use Rattle.paper.specs.Term.{float_of, bits_of, is_finite}
-use Rattle.paper.proofs.FloatLaws.{Operates, sum-operates, difference-operates, finite_number, negated-finite}
+use Rattle.paper.proofs.FloatLaws.{Operates, sum-operates, difference-operates, Relates, equal-relates, above-relates, below-relates, finite_number, negated-finite}
 use Rattle.floats.specs.Kept.{kept_if, kept_of, operation_of, relation_of}
 
 -- a test that was answered, of what it was asked
@@ -29,10 +29,15 @@ pattern b h = no_nan (nan_bits binary32 b) (nan_bits_is binary32 b ∙ h)
 pub finite-pattern : (b : ℕ) → is_finite b ≡ true → T (not (nan_bits binary32 b))
 finite-pattern b h = pattern b (finite_number (float_of b) h)
 
--- both operations
+-- both operations, and all relations
 pub operates : (minus : Bool) → Operates (operation_of minus).of_floats
 operates true = difference-operates
 operates false = sum-operates
+
+pub relates : (k : Ordering) → Relates (relation_of k).of_floats
+relates Equal = equal-relates
+relates Greater = above-relates
+relates Less = below-relates
 
 -- what finite numbers give is no NaN
 pub gives-number : (minus : Bool) (a b : ℕ) → is_finite a ≡ true → is_finite b ≡ true → T (not (is_nan ((operation_of minus).of_floats (float_of a) (float_of b))))

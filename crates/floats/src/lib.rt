@@ -1,5 +1,5 @@
-// Floating terms, by their 32 bits: the one operation of the format for a sum or a difference, the sign turned, the tests. A result is worked
-// out of finite numbers only, and the tests take a NaN's bits for a NaN, so each function answers for all bits.
+// Floating terms, by their 32 bits: the one operation of the format for a sum or a difference, the sign turned, the tests. Bits are taken for a
+// number only where they are a number's, so each function answers for all bits.
 #![tactic(auto)]
 
 ghost use Rattle.std.specs.Prelude.{◌≡◌, not, T};
@@ -8,7 +8,6 @@ ghost use Rattle.paper.specs.Term.{float_of, is_finite, plus, minus};
 ghost use Rattle.floats.specs.Kept.{kept_of, operation_of, relation_of};
 
 use std::cmp::Ordering;
-use std::num::f32_from_bits_with_nan;
 
 // The sign bit, and the bits of infinity: those of a finite number are below it but for the sign.
 const SIGN: u32 = 0x80000000;
@@ -19,6 +18,12 @@ pub fn is_finite(b: u32) -> bool
     ensures { result ≡ is_finite b }
 {
     b % SIGN < INFINITY
+}
+
+fn is_nan(b: u32) -> bool
+    ensures { result ≡ is_nan (float_of b) }
+{
+    INFINITY < b % SIGN
 }
 
 // "a result that is not finite is 29"
@@ -73,7 +78,11 @@ pub fn negated(b: u32) -> Option<u32>
 pub fn holds(k: Ordering, a: u32, b: u32) -> bool
     ensures { result ≡ (relation_of k).of_floats (float_of a) (float_of b) }
 {
-    let x = f32_from_bits_with_nan(a);
-    let y = f32_from_bits_with_nan(b);
-    x.partial_cmp(&y) == Some(k)
+    if is_nan(a) {
+        return false;
+    }
+    if is_nan(b) {
+        return false;
+    }
+    f32::from_bits(a).partial_cmp(&f32::from_bits(b)) == Some(k)
 }
