@@ -1,18 +1,15 @@
--- Laws of symbols and records: a symbol by its class, an integer's value, a record by its kind.
-use Rattle.paper.proofs.Kit.{◌||◌, ℕ, zero, suc, ◌+◌, ◌-◌, ◌^◌, ◌<◌, ◌≤◌, Bool, true, false, cond, ◌&&◌, and-false, List, [], ◌∷◌, ◌⊎◌, ⊎_elim, Option, none}
-use Rattle.paper.proofs.Kit.{some, ◌≡◌, refl, ap, ◌∙◌, sym, subst, arith, ℕ_discrete, lt-ltb, le-ltb, le-leb, lt-leb, ne_eqb, ltb-false, eqb-false, eqb, ltb}
-use Rattle.paper.proofs.Kit.{leb, length, ℤ, pos, negsuc}
+-- Laws of records: a record by its kind and its symbols, and how many symbols one has.
+use Rattle.paper.proofs.Kit.{◌||◌, ℕ, zero, suc, ◌<◌, ◌≤◌, Bool, true, false, cond, ◌&&◌, List, [], ◌∷◌, ◌⊎◌, Option, none, inl, inr}
+use Rattle.paper.proofs.Kit.{some, ◌≡◌, refl, ap, ◌∙◌, sym, subst, arith, ℕ_discrete, le-ltb, ne_eqb, ltb-false, eqb-false, eqb, ltb}
+use Rattle.paper.proofs.Kit.{leb, length}
 use Rattle.paper.specs.Step.{choose}
 use Rattle.paper.specs.declared.Field.{Field}
-use Rattle.paper.specs.declared.Field.TheVariants.{Regional, Local, Zero, Blank}
-use Rattle.paper.specs.Limits.{largest_number, largest_p, many_locals, half_range}
+use Rattle.paper.specs.Limits.{largest_number, largest_p}
 use Rattle.paper.specs.Region.{is_letter}
-use Rattle.paper.specs.Record.{region, routine, datum, number, field, guard, signed32, byte_at, name_at, record_at, region_at, routine_at, datum_at, number_at, as_integer, as_floating}
-use Rattle.paper.specs.Term.{Term, integer, floating, term_fits, is_finite}
+use Rattle.paper.specs.Record.{Name, region, routine, datum, number, guard, byte_at, name_at, record_at, region_at, routine_at, datum_at, number_at, as_integer, as_floating}
+use Rattle.paper.specs.Term.{Term}
 use Rattle.paper.specs.Record.{start_at, start_with, given, name_as, may_symb, may_link_data, pair_at, long_at, field_at, size_of}
-use Rattle.cells.specs.Layout.{value_of, sort_of, bits_of, term_of}
 use Rattle.records.specs.Symbols.{Written, symbols_in, symbols_at, place_of, symbol_at}
-use Rattle.cells.proofs.Laws.{value_low, value-high}
 
 -- a decision, one test after another
 module _ {A : Type 0} where
@@ -24,97 +21,6 @@ module _ {A : Type 0} where
   choose-none : (d : A) → choose [] d ≡ d
   unfolding choose
   choose-none d = refl
-
-pub guard-cond : {A : Type 0} (t : Bool) (x : Option A) → guard t x ≡ cond t x none
-unfolding guard
-guard-cond true x = refl
-guard-cond false x = refl
-
--- a number that is none of 1 to 6 is no kind
-pub no_kind : (k : ℕ) → (k ≡ 1 → ⊥) → (k ≡ 2 → ⊥) → (k ≡ 3 → ⊥) → (k ≡ 4 → ⊥) → (k ≡ 5 → ⊥) → (k ≡ 6 → ⊥) → 0 ≡ size_of k
-no_kind zero p q r s t u = refl
-no_kind (suc zero) p q r s t u = absurd (p refl)
-no_kind (suc (suc zero)) p q r s t u = absurd (q refl)
-no_kind (suc (suc (suc zero))) p q r s t u = absurd (r refl)
-no_kind (suc (suc (suc (suc zero)))) p q r s t u = absurd (s refl)
-no_kind (suc (suc (suc (suc (suc zero))))) p q r s t u = absurd (t refl)
-no_kind (suc (suc (suc (suc (suc (suc zero)))))) p q r s t u = absurd (u refl)
-no_kind (suc (suc (suc (suc (suc (suc (suc k))))))) p q r s t u = refl
-
--- a symbol by its class
-module _ (b n : ℕ) where
-  pub field-regional : 65 ≤ b → b ≤ 90 → field b n ≡ cond (leb n largest_number) (some (Regional b n)) none
-  unfolding field
-  field-regional g h =
-      simp (
-        choose-cond,
-        choose-none,
-        le-leb 65 b g,
-        le-leb b 90 h,
-        ne_eqb b 57 (λ e. omega arith),
-        ne_eqb b 48 (λ e. omega arith),
-        ne_eqb b 32 (λ e. omega arith),
-      )
-
-  pub field-other : (b < 65) ⊎ (90 < b) → (b ≡ 57 → ⊥) → (b ≡ 48 → ⊥) → (b ≡ 32 → ⊥) → none ≡ field b n
-  unfolding field
-  field-other g p q r = simp (choose-cond, choose-none, no-letter, ne_eqb b 57 p, ne_eqb b 48 q, ne_eqb b 32 r)
-    where
-      no-letter : is_letter b ≡ false
-      no-letter = ⊎_elim (λ (h : b < 65). simp (lt-leb 65 b h)) (λ (h : 90 < b). simp (lt-leb b 90 h, and-false)) g
-
-pub field-local : (n : ℕ) → field 57 n ≡ cond (ltb n many_locals) (some (Local n)) none
-unfolding field
-field-local n = simp (choose-cond, choose-none)
-
-pub field-zero : (n : ℕ) → field 48 n ≡ cond (eqb n 0) (some Zero) none
-unfolding field
-field-zero n = simp (choose-cond, choose-none)
-
-pub field-blank : (n : ℕ) → field 32 n ≡ cond (eqb n 0) (some Blank) none
-unfolding field
-field-blank n = simp (choose-cond, choose-none)
-
--- an integer of 32 bits, and its value + 2 ^ 31
-signed_low : (t : Bool) (x y : ℤ) → t ≡ true → ◌≡◌ {A = ℤ} (elim t as (λ _. ℤ) [ true ↦ x | false ↦ y ]) x
-signed_low t x y e = rw e
-
-signed_high : (t : Bool) (x y : ℤ) → t ≡ false → ◌≡◌ {A = ℤ} (elim t as (λ _. ℤ) [ true ↦ x | false ↦ y ]) y
-signed_high t x y e = rw e
-
-pub excess-low : (n : ℕ) → n < half_range → value_of (n + half_range) ≡ signed32 n
-unfolding signed32
-excess-low n h =
-    let e : n + half_range - half_range ≡ n = omega arith in
-    value-high (n + half_range) (omega arith) ∙ ap pos e
-    ∙ sym (signed_low (ltb n half_range) (pos n) (negsuc (half_range + half_range - 1 - n)) (lt-ltb n half_range h))
-
-pub excess-high : (n : ℕ) → half_range ≤ n → n < half_range + half_range → value_of (n - half_range) ≡ signed32 n
-unfolding signed32
-excess-high n g h =
-    let e : half_range - suc (n - half_range) ≡ half_range + half_range - 1 - n = omega arith in
-    value_low (n - half_range) (omega arith) ∙ ap negsuc e
-    ∙ sym (signed_high (ltb n half_range) (pos n) (negsuc (half_range + half_range - 1 - n)) (le-ltb n half_range g))
-
--- a data term that was read, by its number
-pub integer-read : (v n : ℕ) → v < 2 ^ 32 → value_of v ≡ signed32 n → some (term_of v) ≡ as_integer n
-integer-read v n l e =
-    let s : sort_of v ≡ 0 = omega arith in
-    let b : bits_of v ≡ v = omega arith in
-    rw (s, b) (ap (λ (z : ℤ). some (integer z)) e)
-
-module _ (n : ℕ) (l : n < 2 ^ 32) where
-  fits-finite : term_fits (floating n) ≡ is_finite n
-  fits-finite = rw (lt-ltb n (2 ^ 32) l)
-
-  pub floating-read : is_finite n ≡ true → some (term_of (2 ^ 32 + n)) ≡ as_floating n
-  floating-read h =
-      let s : sort_of (2 ^ 32 + n) ≡ 1 = omega arith in
-      let b : bits_of (2 ^ 32 + n) ≡ n = omega arith in
-      rw (s, b) (sym (guard-cond (term_fits (floating n)) _ ∙ ap (λ (t : Bool). cond t (some (floating n)) none) (fits-finite ∙ h)))
-
-  pub floating-refused : is_finite n ≡ false → none ≡ as_floating n
-  floating-refused h = sym (guard-cond (term_fits (floating n)) _ ∙ ap (λ (t : Bool). cond t (some (floating n)) none) (fits-finite ∙ h))
 
 -- a record by its kind
 module _ (r : List ℕ) where
@@ -144,44 +50,7 @@ module _ (r : List ℕ) where
   kind-none kind k a b c d e f =
       simp (choose-cond, choose-none, ← k, ne_eqb kind 1 a, ne_eqb kind 2 b, ne_eqb kind 3 c, ne_eqb kind 4 d, ne_eqb kind 5 e, ne_eqb kind 6 f)
 
--- from its symbols
-module _ (r : List ℕ) (fs : List Field) (kind : ℕ) (k : kind ≡ byte_at r 0) (w : Written kind r fs (symbols_in kind)) where
-  written : (n : ℕ) → kind ≡ n → Written n r fs (symbols_in n)
-  written n e = subst (λ (x : ℕ). Written x r fs (symbols_in x)) e w
-
-  pub record-1 : kind ≡ 1
-      → record_at r ≡ guard (is_letter (byte_at r 1) && leb 1 (pair_at r 2) && leb (pair_at r 2) largest_number) (some (region (byte_at r 1) (pair_at r 2)))
-  unfolding record_at region_at
-  record-1 e = simp (choose-cond, sym k ∙ e)
-
-  pub record-2 : kind ≡ 2
-      → record_at r ≡ given (name_as (symbol_at fs 0)) (λ name. guard (may_symb (symbol_at fs 1) && leb (byte_at r 4) largest_p && leb (byte_at r 5) 2)
-      (some (routine name (byte_at r 4) (byte_at r 5) (symbol_at fs 1) (symbol_at fs 2))))
-  unfolding routine_at name_at given
-  record-2 e = let v = written 2 e in kind_2 r (sym k ∙ e) ∙ simp (v.are 0 (omega arith), v.are 1 (omega arith), v.are 2 (omega arith))
-
-  pub record-3 : kind ≡ 3
-      → record_at r ≡ given (name_as (symbol_at fs 0)) (λ name. guard (may_link_data (symbol_at fs 2)) (some (datum name (symbol_at fs 1) (symbol_at fs 2))))
-  unfolding datum_at name_at given
-  record-3 e = let v = written 3 e in kind_3 r (sym k ∙ e) ∙ simp (v.are 0 (omega arith), v.are 1 (omega arith), v.are 2 (omega arith))
-
-  -- a data term, of the sort that its kind says
-  pub record-term : (n : ℕ) (sort : ℕ → Option Term) → symbols_in n ≡ 1 → kind ≡ n → record_at r ≡ number_at sort r
-      → record_at r ≡ given (name_as (symbol_at fs 0)) (λ name. given (sort (long_at r 4)) (λ t. some (number name t)))
-  unfolding number_at name_at given
-  record-term n sort one e q = q ∙ simp ((written n e).are 0 (omega (arith, one)))
-
-  pub record-4 : kind ≡ 4 → record_at r ≡ given (name_as (symbol_at fs 0)) (λ name. given (as_integer (long_at r 4)) (λ t. some (number name t)))
-  record-4 e = record-term 4 as_integer refl e (kind-4 r (sym k ∙ e))
-
-  pub record-6 : kind ≡ 6 → record_at r ≡ given (name_as (symbol_at fs 0)) (λ name. given (as_floating (long_at r 4)) (λ t. some (number name t)))
-  record-6 e = record-term 6 as_floating refl e (kind-6 r (sym k ∙ e))
-
-  pub record-5 : kind ≡ 5 → record_at r ≡ start_with (symbol_at fs 0)
-  unfolding start_at given
-  record-5 e = kind-5 r (sym k ∙ e) ∙ simp ((written 5 e).are 0 (omega arith))
-
--- a symbol that is not well written spoils its record
+-- a value that may be missing, and the rest
 module _ {A B : Type 0} (o : Option A) (f : A → Option B) where
   none_first : o ≡ none → given o f ≡ none
   unfolding given
@@ -195,6 +64,62 @@ module _ {A B : Type 0} (o : Option A) (f : A → Option B) where
       go none = refl
       go (some x) = h x
 
+-- from its symbols
+module _ (r : List ℕ) (fs : List Field) (kind : ℕ) (k : kind ≡ byte_at r 0) (w : Written kind r fs (symbols_in kind)) where
+  written : (n : ℕ) → kind ≡ n → Written n r fs (symbols_in n)
+  written n e = subst (λ (x : ℕ). Written x r fs (symbols_in x)) e w
+
+  pub record-1 : kind ≡ 1
+      → record_at r ≡ guard (is_letter (byte_at r 1) && leb 1 (pair_at r 2) && leb (pair_at r 2) largest_number) (some (region (byte_at r 1) (pair_at r 2)))
+  unfolding record_at region_at
+  record-1 e = simp (choose-cond, sym k ∙ e)
+
+  -- by its name, where it may have one
+  module _ (name : Name) (n : some name ≡ name_as (symbol_at fs 0)) where
+    pub record-2 : kind ≡ 2
+        → record_at r ≡ guard (may_symb (symbol_at fs 1) && leb (byte_at r 4) largest_p && leb (byte_at r 5) 2)
+        (some (routine name (byte_at r 4) (byte_at r 5) (symbol_at fs 1) (symbol_at fs 2)))
+    unfolding routine_at name_at given
+    record-2 e =
+        let v = written 2 e in kind_2 r (sym k ∙ e) ∙ simp (v.are 0 (omega arith), v.are 1 (omega arith), v.are 2 (omega arith), ← n)
+
+    pub record-3 : kind ≡ 3 → record_at r ≡ guard (may_link_data (symbol_at fs 2)) (some (datum name (symbol_at fs 1) (symbol_at fs 2)))
+    unfolding datum_at name_at given
+    record-3 e = let v = written 3 e in kind_3 r (sym k ∙ e) ∙ simp (v.are 0 (omega arith), v.are 1 (omega arith), v.are 2 (omega arith), ← n)
+
+    -- a data term, of the sort that its kind says
+    record-term : (m : ℕ) (sort : ℕ → Option Term) → symbols_in m ≡ 1 → kind ≡ m → record_at r ≡ number_at sort r
+        → record_at r ≡ given (sort (long_at r 4)) (λ t. some (number name t))
+    unfolding number_at name_at given
+    record-term m sort one e q = q ∙ simp ((written m e).are 0 (omega (arith, one)), ← n)
+
+    pub record-4 : (t : Term) → kind ≡ 4 → some t ≡ as_integer (long_at r 4) → record_at r ≡ some (number name t)
+    unfolding given
+    record-4 t e q = record-term 4 as_integer refl e (kind-4 r (sym k ∙ e)) ∙ ap (λ o. given o (λ x. some (number name x))) (sym q)
+
+    pub record-6 : (t : Term) → kind ≡ 6 → some t ≡ as_floating (long_at r 4) → record_at r ≡ some (number name t)
+    unfolding given
+    record-6 t e q = record-term 6 as_floating refl e (kind-6 r (sym k ∙ e)) ∙ simp (← q)
+
+    pub not-finite : kind ≡ 6 → none ≡ as_floating (long_at r 4) → record_at r ≡ none
+    unfolding given
+    not-finite e q = record-term 6 as_floating refl e (kind-6 r (sym k ∙ e)) ∙ simp (← q)
+
+  pub unnamed : (kind ≡ 2) ⊎ ((kind ≡ 3) ⊎ ((kind ≡ 4) ⊎ (kind ≡ 6))) → none ≡ name_as (symbol_at fs 0) → record_at r ≡ none
+  unfolding routine_at datum_at number_at name_at given
+  unnamed (inl e) q = kind_2 r (sym k ∙ e) ∙ simp ((written 2 e).are 0 (omega arith), ← q)
+  unnamed (inr (inl e)) q = kind_3 r (sym k ∙ e) ∙ simp ((written 3 e).are 0 (omega arith), ← q)
+  unnamed (inr (inr (inl e))) q = kind-4 r (sym k ∙ e) ∙ simp ((written 4 e).are 0 (omega arith), ← q)
+  unnamed (inr (inr (inr e))) q = kind-6 r (sym k ∙ e) ∙ simp ((written 6 e).are 0 (omega arith), ← q)
+
+  pub record-5 : kind ≡ 5 → record_at r ≡ start_with (symbol_at fs 0)
+  unfolding start_at given
+  record-5 e = kind-5 r (sym k ∙ e) ∙ simp ((written 5 e).are 0 (omega arith))
+
+-- what `parse` reads, kind by kind
+pub ruleset kinds = (record-1, record-2, record-3, record-4, record-5, record-6, not-finite, unnamed, kind-none)
+
+-- a symbol that is not well written spoils its record
 module _ (r : List ℕ) where
   bad-name : field_at r 1 ≡ none → name_at r ≡ none
   unfolding name_at

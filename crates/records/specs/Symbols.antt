@@ -1,40 +1,24 @@
 -- What the code reads of a record, as the definitions have it: a symbol, a record, and where the symbols of a record stand.
-use Rattle.std.specs.Prelude.{ℕ, ◌<◌, cond, ◌||◌, List, ◌≡◌, eqb, ltb, get_or, length}
+use Rattle.std.specs.Prelude.{ℕ, ◌<◌, cond, ◌||◌, List, ◌≡◌, eqb, ltb, get_or, length, Option as CodeOption, Some, None}
 use Rattle.std.proofs.Math.Option.{Option, none, some}
 use Rattle.paper.specs.declared.Field.{Field}
 use Rattle.paper.specs.declared.Field.TheVariants.{Regional}
 use Rattle.paper.specs.Record.{Name, in_region, as_local, no_name, Record, region, routine, datum, number, start, byte_at, size_of, field_at}
-use Rattle.paper.specs.Term.{Term}
 use Rattle.cells.specs.Layout.{term_of}
-use Rattle.records.specs.declared.Read.{Read}
-use Rattle.records.specs.declared.Read.TheVariants.{Symbol, Nothing}
 use Rattle.records.specs.declared.Name.{Name as CodeName}
 use Rattle.records.specs.declared.Name.TheVariants.{Regional as InRegion, Local as AsLocal, Blank as NoName}
-use Rattle.records.specs.declared.NameRead.{NameRead}
-use Rattle.records.specs.declared.NameRead.TheVariants.{As, Nothing as NotNamed}
-use Rattle.records.specs.declared.TermRead.{TermRead}
-use Rattle.records.specs.declared.TermRead.TheVariants.{As as ATerm, Nothing as NoTerm}
 use Rattle.records.specs.declared.Record.{Record as CodeRecord}
 use Rattle.records.specs.declared.Record.TheVariants.{Region, Routine, Datum, Number, Start}
-use Rattle.records.specs.declared.Parsed.{Parsed}
-use Rattle.records.specs.declared.Parsed.TheVariants.{Is, Nothing as NoRecord}
 
-abbrev pub read_of : Read → Option Field
-read_of (Symbol f) = some f
-read_of Nothing = none
+-- an Option of the code, as the definitions have it
+abbrev pub option_of : {A : Type 0} → CodeOption A → Option A
+option_of (Some x) = some x
+option_of None = none
 
 abbrev pub name_of : CodeName → Name
 name_of (InRegion b n) = in_region b n
 name_of (AsLocal n) = as_local n
 name_of NoName = no_name
-
-abbrev pub name_read_of : NameRead → Option Name
-name_read_of (As x) = some (name_of x)
-name_read_of NotNamed = none
-
-abbrev pub term_read_of : TermRead → Option Term
-term_read_of (ATerm x) = some (term_of x)
-term_read_of NoTerm = none
 
 abbrev pub record_of : CodeRecord → Record
 record_of (Region b n) = region b n
@@ -42,10 +26,6 @@ record_of (Routine name p q symb link) = routine (name_of name) p q symb link
 record_of (Datum name symb link) = datum (name_of name) symb link
 record_of (Number name x) = number (name_of name) (term_of x)
 record_of (Start b n) = start b n
-
-abbrev pub parsed_of : Parsed → Option Record
-parsed_of (Is x) = some (record_of x)
-parsed_of NoRecord = none
 
 -- how many symbols a record has by its kind: a word NAME, SYMB and LINK, a data term its NAME, the last record the start symbol
 abbrev pub symbols_in : ℕ → ℕ

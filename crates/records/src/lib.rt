@@ -1,14 +1,14 @@
 // The records of a deck, from its bytes: document 01, "The deck".
 #![tactic(auto)]
 
-ghost use Rattle.std.specs.Prelude.{◌≡◌, ◌+◌, ◌*◌, cond, ◌&&◌, leb};
-ghost use Rattle.std.proofs.Math.Option.{none, some};
+ghost use Rattle.std.specs.Prelude.{◌≡◌, ◌&&◌, leb, option_map};
+ghost use Rattle.std.proofs.Math.Option.{some};
 ghost use Rattle.paper.specs.Limits.{largest_number, largest_p};
 ghost use Rattle.paper.specs.Region.{is_letter};
 ghost use Rattle.paper.specs.Record.{region, routine, datum, number, byte_at, pair_at, long_at, field, field_at, size_of, name_as, may_symb, may_link_data};
-ghost use Rattle.paper.specs.Record.{given, guard, signed32, as_integer, as_floating, start_with, record_at};
-ghost use Rattle.cells.specs.Layout.{value_of};
-ghost use Rattle.records.specs.Symbols.{read_of, name_read_of, term_read_of, record_of, parsed_of, symbols_in, symbols_at, place_of, Written};
+ghost use Rattle.paper.specs.Record.{guard, signed32, as_integer, as_floating, start_with, record_at};
+ghost use Rattle.cells.specs.Layout.{value_of, term_of};
+ghost use Rattle.records.specs.Symbols.{option_of, name_of, record_of, symbols_in, symbols_at, place_of, Written};
 
 use paper::{Field, limits};
 
@@ -32,87 +32,43 @@ pub enum Record {
     Start(u8, u16),
 }
 
-// A record, or nothing where a field breaks the rules (4).
-#[derive(Clone, Copy)]
-pub enum Parsed {
-    Is(Record),
-    Nothing,
-}
-
-// A symbol of a record; nothing where its bytes break the rules (4).
-#[derive(Clone, Copy)]
-pub enum Read {
-    Symbol(Field),
-    Nothing,
-}
-
-// A NAME; nothing where the symbol may not be one (4).
-#[derive(Clone, Copy)]
-enum NameRead {
-    As(Name),
-    Nothing,
-}
-
-// A data term; nothing where it may not be one (4).
-#[derive(Clone, Copy)]
-enum TermRead {
-    As(u64),
-    Nothing,
-}
-
 // The byte at a place; past the end, 0.
 fn byte_at(r: &[u8], i: usize) -> u8
     ensures { result ≡ byte_at r.now i }
 {
-    if i < r.len() {
-        return r[i];
-    }
-    0
+    r.get(i).copied().unwrap_or(0)
 }
 
 // "numbers big-endian"
-fn pair(high: u8, low: u8) -> u16
-    ensures { result ≡ high * 256 + low }
-{
-    (high as u16) * 256 + (low as u16)
-}
-
 fn pair_at(r: &[u8], i: u16) -> u16
     ensures { result ≡ pair_at r.now i }
 {
     let at = i as usize;
-    pair(byte_at(r, at), byte_at(r, at + 1))
+    u16::from_be_bytes([byte_at(r, at), byte_at(r, at + 1)])
 }
 
-fn only(b: bool, f: Field) -> Read
-    ensures { read_of result ≡ cond b (some f) none }
-{
-    if b {
-        return Read::Symbol(f);
-    }
-    Read::Nothing
-}
-
-// "class byte, then a 16-bit number"
-fn field(class: u8, n: u16) -> Read
-    ensures { read_of result ≡ field class n }
+// "class byte, then a 16-bit number"; none where the rules are broken (4).
+#[tactic(auto, unfolding(paper::specs::Record::field, paper::specs::Step::choose))]
+fn field(class: u8, n: u16) -> Option<Field>
+    ensures { option_of result ≡ field class n }
 {
     match class {
-        b'A'..=b'Z' => only(n <= limits::LARGEST_NUMBER, Field::Regional(class, n)),
-        b'9' => only(n < MANY_LOCALS, Field::Local(n)),
-        b'0' => only(n == 0, Field::Zero),
-        b' ' => only(n == 0, Field::Blank),
-        _ => Read::Nothing,
+        b'A'..=b'Z' => (n <= limits::LARGEST_NUMBER).then_some(Field::Regional(class, n)),
+        b'9' => (n < MANY_LOCALS).then_some(Field::Local(n)),
+        b'0' => (n == 0).then_some(Field::Zero),
+        b' ' => (n == 0).then_some(Field::Blank),
+        _ => None,
     }
 }
 
-fn field_at(r: &[u8], i: u8) -> Read
-    ensures { read_of result ≡ field_at r.now i }
+fn field_at(r: &[u8], i: u8) -> Option<Field>
+    ensures { option_of result ≡ field_at r.now i }
 {
     field(byte_at(r, i as usize), pair_at(r, (i as u16) + 1))
 }
 
 // The length of a record with its kind byte; 0 for an unknown kind.
+// A kind stays the deck's byte, as in the paper's table: the definitions compute with it, and an unknown one is a value too (3).
 pub fn size_of(kind: u8) -> usize
     ensures { result ≡ size_of kind }
 {
@@ -132,8 +88,7 @@ fn symbols_in(kind: u8) -> usize
 {
     match kind {
         1 => 0,
-        2 => 3,
-        3 => 3,
+        2 | 3 => 3,
         _ => 1,
     }
 }
@@ -144,7 +99,7 @@ pub fn symbols_at(r: &[u8]) -> usize
 {
     let kind = byte_at(r, 0);
     let size = size_of(kind);
-    if (size == 0) | (r.len() < size) {
+    if size == 0 || r.len() < size {
         return 0;
     }
     symbols_in(kind)
@@ -154,28 +109,30 @@ pub fn symbols_at(r: &[u8]) -> usize
 fn place_of(kind: u8, i: usize) -> u8
     ensures { result ≡ place_of kind i }
 {
-    match i {
-        0 => 1,
-        1 => if kind == 2 { 6 } else { 4 },
-        _ => if kind == 2 { 9 } else { 7 },
+    match (i, kind) {
+        (0, _) => 1,
+        (1, 2) => 6,
+        (1, _) => 4,
+        (_, 2) => 9,
+        _ => 7,
     }
 }
 
-pub fn symbol(r: &[u8], kind: u8, i: usize) -> Read
-    ensures { read_of result ≡ field_at r.now (place_of kind i) }
+pub fn symbol(r: &[u8], kind: u8, i: usize) -> Option<Field>
+    ensures { option_of result ≡ field_at r.now (place_of kind i) }
 {
     field_at(r, place_of(kind, i))
 }
 
 // "A NAME of class `0` is 4".
-fn name_as(f: Field) -> NameRead
-    ensures { name_read_of result ≡ name_as f }
+fn name_as(f: Field) -> Option<Name>
+    ensures { option_of (option_map name_of result) ≡ name_as f }
 {
     match f {
-        Field::Regional(b, n) => NameRead::As(Name::Regional(b, n)),
-        Field::Local(n) => NameRead::As(Name::Local(n)),
-        Field::Zero => NameRead::Nothing,
-        Field::Blank => NameRead::As(Name::Blank),
+        Field::Regional(b, n) => Some(Name::Regional(b, n)),
+        Field::Local(n) => Some(Name::Local(n)),
+        Field::Zero => None,
+        Field::Blank => Some(Name::Blank),
     }
 }
 
@@ -183,148 +140,96 @@ fn name_as(f: Field) -> NameRead
 fn may_symb(f: Field) -> bool
     ensures { result ≡ may_symb f }
 {
-    match f {
-        Field::Regional(_, _) => true,
-        Field::Local(_) => true,
-        Field::Zero => true,
-        Field::Blank => false,
-    }
+    !matches!(f, Field::Blank)
 }
 
 // "A data LINK is blank or 0."
 fn may_link_data(f: Field) -> bool
     ensures { result ≡ may_link_data f }
 {
-    match f {
-        Field::Regional(_, _) => false,
-        Field::Local(_) => false,
-        Field::Zero => true,
-        Field::Blank => true,
-    }
-}
-
-fn whole(b: bool, x: Record) -> Parsed
-    ensures { parsed_of result ≡ guard b (some (record_of x)) }
-{
-    if b {
-        return Parsed::Is(x);
-    }
-    Parsed::Nothing
+    matches!(f, Field::Zero | Field::Blank)
 }
 
 // "region: letter, count 1..9,999"
-fn region(b: u8, n: u16) -> Parsed
-    ensures { parsed_of result ≡ guard (is_letter b && leb 1 n && leb n largest_number) (some (region b n)) }
+#[tactic(auto, unfolding(paper::specs::Record::guard))]
+fn region(b: u8, n: u16) -> Option<Record>
+    ensures { option_of (option_map record_of result) ≡ guard (is_letter b && leb 1 n && leb n largest_number) (some (region b n)) }
 {
-    whole(
-        (b'A' <= b) & (b <= b'Z') & (1 <= n) & (n <= limits::LARGEST_NUMBER),
-        Record::Region(b, n),
-    )
+    let fits = b.is_ascii_uppercase() && 1 <= n && n <= limits::LARGEST_NUMBER;
+    fits.then_some(Record::Region(b, n))
 }
 
 // "routine word: NAME, P, Q, SYMB, LINK"; "P is 0..7, Q is 0..2."
-fn routine(named: NameRead, p: u8, q: u8, symb: Field, link: Field) -> Parsed
-    ensures { parsed_of result ≡ given (name_read_of named) (λ name. guard (may_symb symb && leb p largest_p && leb q 2) (some (routine name p q symb link))) }
+#[tactic(auto, unfolding(paper::specs::Record::guard))]
+fn routine(name: Name, p: u8, q: u8, symb: Field, link: Field) -> Option<Record>
+    ensures { option_of (option_map record_of result) ≡ guard (may_symb symb && leb p largest_p && leb q 2) (some (routine (name_of name) p q symb link)) }
 {
-    let NameRead::As(name) = named else {
-        return Parsed::Nothing;
-    };
-    whole(
-        may_symb(symb) & (p <= limits::LARGEST_P) & (q <= limits::LARGEST_Q),
-        Record::Routine(name, p, q, symb, link),
-    )
+    let fits = may_symb(symb) && p <= limits::LARGEST_P && q <= limits::LARGEST_Q;
+    fits.then_some(Record::Routine(name, p, q, symb, link))
 }
 
 // "data word: NAME, SYMB, LINK"
-fn datum(named: NameRead, symb: Field, link: Field) -> Parsed
-    ensures { parsed_of result ≡ given (name_read_of named) (λ name. guard (may_link_data link) (some (datum name symb link))) }
+#[tactic(auto, unfolding(paper::specs::Record::guard))]
+fn datum(name: Name, symb: Field, link: Field) -> Option<Record>
+    ensures { option_of (option_map record_of result) ≡ guard (may_link_data link) (some (datum (name_of name) symb link)) }
 {
-    let NameRead::As(name) = named else {
-        return Parsed::Nothing;
-    };
-    whole(may_link_data(link), Record::Datum(name, symb, link))
+    may_link_data(link).then_some(Record::Datum(name, symb, link))
 }
 
 // "signed 32 bits", as the value + 2^31
+#[tactic(auto, unfolding(paper::specs::Record::signed32))]
 fn excess(n: u32) -> u32
     ensures { value_of result ≡ signed32 n }
 {
-    if n < cells::ZERO {
-        return n + cells::ZERO;
-    }
-    n - cells::ZERO
-}
-
-fn long(high: u16, low: u16) -> u32
-    ensures { result ≡ high * 65536 + low }
-{
-    (high as u32) * 65536 + (low as u32)
+    n.wrapping_add(cells::ZERO)
 }
 
 fn long_at(r: &[u8], i: u8) -> u32
     ensures { result ≡ long_at r.now i }
 {
     let at = i as u16;
-    long(pair_at(r, at), pair_at(r, at + 2))
+    u32::from(pair_at(r, at)) * 65536 + u32::from(pair_at(r, at + 2))
 }
 
 // "signed 32 bits"
-fn as_integer(n: u32) -> TermRead
-    ensures { term_read_of result ≡ as_integer n }
+fn as_integer(n: u32) -> u64
+    ensures { some (term_of result) ≡ as_integer n }
 {
-    TermRead::As(excess(n) as u64)
+    u64::from(excess(n))
 }
 
 // "A deck term that is not finite is 4"
-fn as_floating(n: u32) -> TermRead
-    ensures { term_read_of result ≡ as_floating n }
+#[tactic(auto, unfolding(paper::specs::Record::guard))]
+fn as_floating(n: u32) -> Option<u64>
+    ensures { option_of (option_map term_of result) ≡ as_floating n }
 {
-    if floats::is_finite(n) {
-        return TermRead::As(cells::FLOATING + (n as u64));
-    }
-    TermRead::Nothing
-}
-
-// "integer: NAME, signed 32 bits"; CR 9: "the name and four bytes of the number's bits"
-fn number(named: NameRead, read: TermRead) -> Parsed
-    ensures { parsed_of result ≡ given (name_read_of named) (λ name. given (term_read_of read) (λ t. some (number name t))) }
-{
-    let NameRead::As(name) = named else {
-        return Parsed::Nothing;
-    };
-    let TermRead::As(t) = read else {
-        return Parsed::Nothing;
-    };
-    Parsed::Is(Record::Number(name, t))
+    floats::is_finite(n).then_some(cells::FLOATING + u64::from(n))
 }
 
 // "start symbol, regional"
-fn start(f: Field) -> Parsed
-    ensures { parsed_of result ≡ start_with f }
+fn start(f: Field) -> Option<Record>
+    ensures { option_of (option_map record_of result) ≡ start_with f }
 {
     match f {
-        Field::Regional(b, n) => Parsed::Is(Record::Start(b, n)),
-        Field::Local(_) => Parsed::Nothing,
-        Field::Zero => Parsed::Nothing,
-        Field::Blank => Parsed::Nothing,
+        Field::Regional(b, n) => Some(Record::Start(b, n)),
+        _ => None,
     }
 }
 
-// The record that begins at r, by its symbols.
-pub fn parse(r: &[u8], kind: u8, symbols: [Field; 3]) -> Parsed
+// The record that begins at r, by its symbols; none where a field breaks the rules (4).
+#[tactic(auto, using(crate::proofs::Laws::kinds))]
+pub fn parse(r: &[u8], kind: u8, symbols: [Field; 3]) -> Option<Record>
     requires { (kind ≡ byte_at r.now 0) × Written kind r.now symbols (symbols_in kind) }
-    ensures { parsed_of result ≡ record_at r.now }
+    ensures { option_of (option_map record_of result) ≡ record_at r.now }
 {
-    let first = symbols[0];
-    let symb = symbols[1];
-    let link = symbols[2];
+    let [first, symb, link] = symbols;
     match kind {
         1 => region(byte_at(r, 1), pair_at(r, 2)),
-        2 => routine(name_as(first), byte_at(r, 4), byte_at(r, 5), symb, link),
-        3 => datum(name_as(first), symb, link),
-        4 => number(name_as(first), as_integer(long_at(r, 4))),
+        2 => routine(name_as(first)?, byte_at(r, 4), byte_at(r, 5), symb, link),
+        3 => datum(name_as(first)?, symb, link),
+        4 => Some(Record::Number(name_as(first)?, as_integer(long_at(r, 4)))),
         5 => start(first),
-        6 => number(name_as(first), as_floating(long_at(r, 4))),
-        _ => Parsed::Nothing,
+        6 => Some(Record::Number(name_as(first)?, as_floating(long_at(r, 4))?)),
+        _ => None,
     }
 }
