@@ -1,5 +1,5 @@
 -- Laws of the bridge: a cell read and written through `map unpack_of`, and stores whose numbers are all formed.
-use Rattle.paper.proofs.Kit.{ℕ, zero, suc, ◌<◌, ◌≤◌, List, [], ◌∷◌, ◌≡◌, refl, ap, arith, length, get_or, set}
+use Rattle.paper.proofs.Kit.{ℕ, zero, suc, ◌<◌, ◌≤◌, ◌^◌, List, [], ◌∷◌, ◌≡◌, refl, ap, arith, length, get_or, set}
 use Rattle.paper.specs.Cell.{Cell, free}
 use Rattle.cells.specs.Layout.{unpack_of}
 use Rattle.cells.specs.Pack.{pack_of, AllFormed, packed}
@@ -40,3 +40,10 @@ pub formed-at : (s : List ℕ) (c : ℕ) → c < length s → AllFormed s → pa
 formed-at [] c k h = absurd (omega arith)
 formed-at (x ∷ s) zero k h = h.0
 formed-at (x ∷ s) (suc c) k h = formed-at s c (omega arith) h.1
+
+-- the number at a place, or that of a free cell past the end
+pub cell_or : (s : List ℕ) (c : ℕ) → cell_in s c ≡ unpack_of (get_or s c (2 ^ 48))
+unfolding cell_in unpack_of
+cell_or [] c = refl
+cell_or (x ∷ s) zero = refl
+cell_or (x ∷ s) (suc c) = cell_or s c

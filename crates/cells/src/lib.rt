@@ -61,11 +61,7 @@ pub enum Cell {
 pub fn peek(cells: &[u64], c: u16) -> u64
     ensures { cell_in cells.now c ≡ unpack_of result }
 {
-    let i = c as usize;
-    if i < cells.len() {
-        return cells[i];
-    }
-    FREE
+    cells.get(c as usize).copied().unwrap_or(FREE)
 }
 
 pub fn is_free(x: u64) -> bool
@@ -89,10 +85,7 @@ pub fn is_term(x: u64) -> bool
 pub fn is_process(x: u64) -> bool
     ensures { result ≡ is_process (unpack_of x) }
 {
-    if x < PROCESS {
-        return false;
-    }
-    true
+    PROCESS <= x
 }
 
 // The word in a cell; an empty one where there is none.

@@ -1,10 +1,9 @@
-use Rattle.cells.specs.Layout.{unpack_of}
-use Rattle.cells.proofs.Store.{cell_at, cell_out}
+use Rattle.paper.proofs.Kit.{◌≡◌, get_or, arith}
+use Rattle.std.proofs.lemmas.Grind.{common_steps}
+use Rattle.cells.proofs.Store.{cell_or}
 use Rattle.cells.proofs.peek.Goals as goal
 
-pub returns-then-i-cells : goal.returns-then-i-cells
-returns-then-i-cells c = cell_at c.args.cells.now _ c.if-i-cells.true
-
 pub returns : goal.returns
-unfolding unpack_of
-returns c = cell_out c.args.cells.now _ c.if-i-cells.false
+returns c =
+    let e : c.unwrap_or.result ≡ get_or c.args.cells.now c.args.c 281474976710656 = grind (arith, common_steps) in
+    rw e (cell_or _ _)
