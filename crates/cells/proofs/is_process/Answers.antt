@@ -10,7 +10,7 @@ returns c = go (ltb c.args.x (3 * 2 ^ 48)) refl
     go : (b : Bool) → ltb c.args.x (3 * 2 ^ 48) ≡ b → leb (3 * 2 ^ 48) c.args.x ≡ is_process (unpack_of c.args.x)
     go true e =
         let h = ltb-true c.args.x (3 * 2 ^ 48) e in
-        simp (by_kind is_process c.args.x, e, lt-leb c.args.x (3 * 2 ^ 48) (omega arith), cond_same)
+        simp (by_kind is_process c.args.x, e, lt-leb (3 * 2 ^ 48) c.args.x (omega arith), cond_same)
     go false e =
         let h = ltb-false c.args.x (3 * 2 ^ 48) e in
         simp (
