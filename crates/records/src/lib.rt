@@ -43,7 +43,7 @@ fn byte_at(r: &[u8], i: usize) -> u8
 fn pair_at(r: &[u8], i: u16) -> u16
     ensures { result ≡ pair_at r.now i }
 {
-    let at = i as usize;
+    let at = usize::from(i);
     u16::from_be_bytes([byte_at(r, at), byte_at(r, at + 1)])
 }
 
@@ -64,7 +64,7 @@ fn field(class: u8, n: u16) -> Option<Field>
 fn field_at(r: &[u8], i: u8) -> Option<Field>
     ensures { option_of result ≡ field_at r.now i }
 {
-    field(byte_at(r, i as usize), pair_at(r, (i as u16) + 1))
+    field(byte_at(r, usize::from(i)), pair_at(r, u16::from(i) + 1))
 }
 
 // The length of a record with its kind byte; 0 for an unknown kind.
@@ -187,7 +187,7 @@ fn excess(n: u32) -> u32
 fn long_at(r: &[u8], i: u8) -> u32
     ensures { result ≡ long_at r.now i }
 {
-    let at = i as u16;
+    let at = u16::from(i);
     u32::from(pair_at(r, at)) * 65536 + u32::from(pair_at(r, at + 2))
 }
 
