@@ -1,5 +1,6 @@
 -- The digest of the cells, what stood where nothing was written, and digits; and the three plain actions by their place in a case.
-use Rattle.std.specs.Prelude.{ℕ, ◌+◌, ◌*◌, ◌/◌, ◌%◌, Bool, true, cond, ◌&&◌, List, [], ◌∷◌, eqb, ltb}
+use Rattle.std.specs.Prelude.{ℕ, ◌+◌, ◌*◌, ◌/◌, ◌%◌, Bool, cond, List, eqb, ltb}
+use Rattle.std.specs.List.{fold, list_all}
 use Rattle.paper.specs.Act.{Act}
 use Rattle.paper.specs.Plain.{preserve_h0}
 use Rattle.paper.specs.Process.{J72, J74}
@@ -11,14 +12,12 @@ prime = 1000000007
 abbrev pub mixed : ℕ → ℕ → ℕ
 mixed h w = (h % prime * 1000003 + w % prime) % prime
 
-unfoldable pub digest_from : ℕ → List ℕ → ℕ
-digest_from h [] = h
-digest_from h (w ∷ ws) = digest_from (mixed h w) ws
+abbrev pub digest_from : ℕ → List ℕ → ℕ
+digest_from h ws = fold mixed h ws
 
 -- every number is x
-unfoldable pub all_are : ℕ → List ℕ → Bool
-all_are x [] = true
-all_are x (y ∷ ys) = eqb y x && all_are x ys
+abbrev pub all_are : ℕ → List ℕ → Bool
+all_are x ys = list_all (λ y. eqb y x) ys
 
 -- what stands in every cell before a load, and in the room before a run
 abbrev pub spoilt : ℕ

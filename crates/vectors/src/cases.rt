@@ -118,20 +118,18 @@ fn demand3(rt: &impl Print, cells: &mut [u64], regions: Regions) {
 }
 
 // N:3 LENGTH:2 DECK
-fn read_load(rt: &impl Print, stdin: &mut impl Read, cells: &mut [u64], bytes: &mut [u8]) -> bool {
-    let begun = input::take(stdin, bytes, 5);
-    let n = input::three(bytes, 0);
-    let len = input::pair(bytes, 3);
-    if !(begun & input::take(stdin, bytes, len)) {
-        return false;
-    }
-    if n <= cells.len() {
-        if len <= bytes.len() {
-            load(rt, &mut cells[..n], &bytes[..len]);
-            return true;
-        }
-    }
-    false
+fn read_load(
+    rt: &impl Print,
+    stdin: &mut impl Read,
+    cells: &mut [u64],
+    bytes: &mut [u8],
+) -> Option<()> {
+    let head = input::take(stdin, bytes, 5)?;
+    let n = input::three(head, 0);
+    let len = input::pair(head, 3);
+    let deck = input::take(stdin, bytes, len)?;
+    load(rt, cells.get_mut(..n)?, deck);
+    Some(())
 }
 
 // N:3 BUDGET:4 ROOM:2 LENGTH:2 DECK
@@ -141,24 +139,15 @@ fn read_load_and_run(
     cells: &mut [u64],
     bytes: &mut [u8],
     out: &mut [u8],
-) -> bool {
-    let begun = input::take(stdin, bytes, 11);
-    let n = input::three(bytes, 0);
-    let budget = input::four(bytes, 3);
-    let room = input::pair(bytes, 7);
-    let len = input::pair(bytes, 9);
-    if !(begun & input::take(stdin, bytes, len)) {
-        return false;
-    }
-    if n <= cells.len() {
-        if len <= bytes.len() {
-            if room <= out.len() {
-                load_and_run(rt, &mut cells[..n], &bytes[..len], budget, &mut out[..room]);
-                return true;
-            }
-        }
-    }
-    false
+) -> Option<()> {
+    let head = input::take(stdin, bytes, 11)?;
+    let n = input::three(head, 0);
+    let budget = input::four(head, 3);
+    let room = input::pair(head, 7);
+    let len = input::pair(head, 9);
+    let deck = input::take(stdin, bytes, len)?;
+    load_and_run(rt, cells.get_mut(..n)?, deck, budget, out.get_mut(..room)?);
+    Some(())
 }
 
 // N:3 BUDGET:4 ROOM:2 REGIONS CELLS
@@ -168,43 +157,36 @@ fn read_run(
     cells: &mut [u64],
     bytes: &mut [u8],
     out: &mut [u8],
-) -> bool {
-    let begun = input::take(stdin, bytes, 9);
-    let n = input::three(bytes, 0);
-    let budget = input::four(bytes, 3);
-    let room = input::pair(bytes, 7);
-    let t = input::regions(stdin, bytes);
-    let r = t.regions;
-    if !(begun & t.whole & input::cells(stdin, bytes, cells, n)) {
-        return false;
-    }
-    if n <= cells.len() {
-        if room <= out.len() {
-            run_store(rt, &mut cells[..n], r, budget, &mut out[..room]);
-            return true;
-        }
-    }
-    false
+) -> Option<()> {
+    let head = input::take(stdin, bytes, 9)?;
+    let n = input::three(head, 0);
+    let budget = input::four(head, 3);
+    let room = input::pair(head, 7);
+    let r = input::regions(stdin, bytes)?;
+    let store = cells.get_mut(..n)?;
+    input::cells(stdin, bytes, store)?;
+    run_store(rt, store, r, budget, out.get_mut(..room)?);
+    Some(())
 }
 
 // TAG:1 NUMBER:2 N:3 REGIONS CELLS
-fn read_walk(rt: &impl Print, stdin: &mut impl Read, cells: &mut [u64], bytes: &mut [u8]) -> bool {
-    let begun = input::take(stdin, bytes, 6);
+fn read_walk(
+    rt: &impl Print,
+    stdin: &mut impl Read,
+    cells: &mut [u64],
+    bytes: &mut [u8],
+) -> Option<()> {
+    let head = input::take(stdin, bytes, 6)?;
     let x = Symbol {
-        tag: input::byte(bytes, 0),
-        num: input::pair(bytes, 1) as u16,
+        tag: input::byte(head, 0),
+        num: input::pair(head, 1) as u16,
     };
-    let n = input::three(bytes, 3);
-    let t = input::regions(stdin, bytes);
-    let r = t.regions;
-    if !(begun & t.whole & input::cells(stdin, bytes, cells, n)) {
-        return false;
-    }
-    if n <= cells.len() {
-        walk(rt, &cells[..n], r, x);
-        return true;
-    }
-    false
+    let n = input::three(head, 3);
+    let r = input::regions(stdin, bytes)?;
+    let store = cells.get_mut(..n)?;
+    input::cells(stdin, bytes, store)?;
+    walk(rt, store, r, x);
+    Some(())
 }
 
 // N:3 REGIONS CELLS
@@ -213,21 +195,16 @@ fn read_demand3(
     stdin: &mut impl Read,
     cells: &mut [u64],
     bytes: &mut [u8],
-) -> bool {
-    let begun = input::take(stdin, bytes, 3);
-    let n = input::three(bytes, 0);
-    let t = input::regions(stdin, bytes);
-    let r = t.regions;
-    if !(begun & t.whole & input::cells(stdin, bytes, cells, n)) {
-        return false;
-    }
-    if n <= cells.len() {
-        demand3(rt, &mut cells[..n], r);
-        return true;
-    }
-    false
+) -> Option<()> {
+    let n = input::three(input::take(stdin, bytes, 3)?, 0);
+    let r = input::regions(stdin, bytes)?;
+    let store = cells.get_mut(..n)?;
+    input::cells(stdin, bytes, store)?;
+    demand3(rt, store, r);
+    Some(())
 }
 
+// None where there is no whole case.
 fn read(
     rt: &impl Print,
     stdin: &mut impl Read,
@@ -235,14 +212,14 @@ fn read(
     cells: &mut [u64],
     bytes: &mut [u8],
     out: &mut [u8],
-) -> bool {
+) -> Option<()> {
     match kind {
         b'L' => read_load(rt, stdin, cells, bytes),
         b'R' => read_load_and_run(rt, stdin, cells, bytes, out),
         b'S' => read_run(rt, stdin, cells, bytes, out),
         b'W' => read_walk(rt, stdin, cells, bytes),
         b'D' => read_demand3(rt, stdin, cells, bytes),
-        _ => false,
+        _ => None,
     }
 }
 
@@ -254,12 +231,13 @@ pub(crate) fn next(
     bytes: &mut [u8],
     out: &mut [u8],
 ) -> bool {
-    if !input::take(stdin, bytes, 1) {
+    let Some(tag) = input::take(stdin, bytes, 1) else {
         return false;
+    };
+    let kind = input::byte(tag, 0);
+    let whole = read(rt, stdin, kind, cells, bytes, out).is_some();
+    if !whole {
+        answers::text(rt, b"no whole case\n");
     }
-    if read(rt, stdin, input::byte(bytes, 0), cells, bytes, out) {
-        return true;
-    }
-    answers::text(rt, b"no whole case\n");
-    false
+    whole
 }

@@ -1,2 +1,0 @@
--- The loops over a list, turn by turn.
-pub mod ListLaws
