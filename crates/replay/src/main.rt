@@ -3,6 +3,7 @@
 
 ghost use Rattle.std.specs.Prelude.{◌≤◌, length};
 
+use desk::Printout;
 use paper::limits;
 use std::io;
 use std::io::Read;
@@ -12,20 +13,18 @@ fn read_full(stdin: &mut impl Read, bytes: &mut [u8]) -> usize
     ensures { result ≤ length bytes.new }
 {
     let mut done = 0;
-    while done < bytes.len() {
-        match stdin.read(&mut bytes[done..]) {
-            Ok(n) if 0 < n => done += n,
-            _ => return done,
-        }
+    while done < bytes.len()
+        && let Ok(n) = stdin.read(&mut bytes[done..])
+        && 0 < n
+    {
+        done += n;
     }
     done
 }
 
 fn main(rt: HostRuntime) -> io::Result<()> {
     let mut input = [0u8; limits::PROGRAM_DECK];
-    let n = read_full(&mut rt.reader(), &mut input);
-    let p = desk::replay(&input[..n]);
-    let len = p.n;
-    let bytes = p.bytes;
-    rt.write_all(&bytes[..len])
+    let read = read_full(&mut rt.reader(), &mut input);
+    let Printout { n, bytes } = desk::replay(&input[..read]);
+    rt.write_all(&bytes[..n])
 }
