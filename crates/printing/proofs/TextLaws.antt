@@ -2,6 +2,7 @@
 use Rattle.paper.proofs.Kit.{ℕ, zero, suc, ◌+◌, ◌-◌, ◌/◌, ◌%◌, ◌^◌, ◌<◌, ◌≤◌, ◌≡◌, refl, ap, ◌∙◌, sym, subst, true, false, ◌≢◌, Option, none, some, List, [], ◌∷◌, ◌++◌}
 use Rattle.paper.proofs.Kit.{append_assoc, append-nil, arith, add-one, lt-ltb, le-ltb, eq-eqb, ne_eqb, length, get_or, take, drop, set, length-append}
 use Rattle.paper.proofs.Kit.{length-set, take-suc-set, paste, paste-suc}
+use Rattle.std.specs.Prelude.{Option as Answer, Some, None}
 use Rattle.paper.specs.declared.Symbol.{Symbol}
 use Rattle.paper.specs.Step.{choose}
 use Rattle.paper.specs.Region.{Region, letters_of}
@@ -11,8 +12,6 @@ use Rattle.paper.specs.Print.{nine_byte, minus_byte, digits_by, digits, integer_
 use Rattle.paper.proofs.LineLaws.{digits-length, hex-length, cell-digits}
 use Rattle.cells.specs.Layout.{value_of, bits_of, term_of}
 use Rattle.cells.proofs.Laws.{value_low, value-high, integer-is, floating-is}
-use Rattle.regions.specs.declared.Named.{Named}
-use Rattle.regions.specs.declared.Named.TheVariants.{As, Nothing}
 use Rattle.regions.specs.Lent.{letters_in}
 use Rattle.printing.specs.Text.{Writes, Text, Puts}
 
@@ -104,14 +103,14 @@ unfolding term_text
 text-hex x e w = rw (floating-is x e, term_text) (record { writes = w; short = omega (arith, w.end, hex-length hex_digits (bits_of x)) })
 
 -- a cell by what the table says of it
-pub text-named : {m : Named} {o : Option (ℕ × ℕ)} {b n k : ℕ} (c : ℕ) → letters_in m ≡ o → m ≡ As b n → (k ≡ n) × (k < 10 ^ cell_digits)
+pub text-named : {m : Answer (ℕ × ℕ)} {o : Option (ℕ × ℕ)} {b n k : ℕ} (c : ℕ) → letters_in m ≡ o → m ≡ Some (b, n) → (k ≡ n) × (k < 10 ^ cell_digits)
     → b ∷ digits_by cell_digits k ≡ cell_text c o
 unfolding cell_text
 text-named {o = o} {b = b} {n = n} {k = k} c p e h =
     let q : o ≡ some (b, n) = sym p ∙ ap letters_in e in
     rw (q, ← h.0, cell-digits k h.1)
 
-pub text-unnamed : {m : Named} {o : Option (ℕ × ℕ)} {k : ℕ} (c : ℕ) → letters_in m ≡ o → m ≡ Nothing → (k ≡ c) × (k < 10 ^ cell_digits)
+pub text-unnamed : {m : Answer (ℕ × ℕ)} {o : Option (ℕ × ℕ)} {k : ℕ} (c : ℕ) → letters_in m ≡ o → m ≡ None → (k ≡ c) × (k < 10 ^ cell_digits)
     → digits_by cell_digits k ≡ cell_text c o
 unfolding cell_text
 text-unnamed {o = o} {k = k} c p e h = let q : o ≡ none = sym p ∙ ap letters_in e in rw (q) (cell-digits k h.1 ∙ ap digits h.0)

@@ -1,6 +1,6 @@
 -- The contracts of what prints: code that follows a block over the lent cells, their log, and the bytes of the line, of which a cycle has none
 -- at first.
-use Rattle.std.specs.Prelude.{ℕ, ◌-◌, ◌<◌, ◌≤◌, ◌≡◌, List, [], length, take, drop}
+use Rattle.std.specs.Prelude.{ℕ, ◌-◌, ◌≤◌, ◌≡◌, List, [], length, take, drop, Result, Ok, Err}
 use Rattle.std.proofs.Math.Seq.{paste}
 use Rattle.paper.specs.declared.Refusal.{Refusal}
 use Rattle.paper.specs.Region.{Region}
@@ -8,11 +8,9 @@ use Rattle.paper.specs.Cell.{State}
 use Rattle.paper.specs.Act.{Act, ◌>>◌, pop}
 use Rattle.paper.specs.Print.{print_line}
 use Rattle.cells.specs.Bridge.{Rest, state_of}
-use Rattle.steps.specs.Follows.{World, Follows}
+use Rattle.steps.specs.Follows.{World, Follows, seen_as}
 use Rattle.regions.specs.Lent.{Tells}
-use Rattle.undo.specs.Verdict.{told}
 use Rattle.undo.specs.Did.{Kept, lent, Lent, Shown}
-use Rattle.printing.specs.declared.Printed.{Printed}
 
 -- what of a state is neither cells nor lines: the regions, and the room there was for the line
 pub record Heard : Type 0 where
@@ -44,32 +42,36 @@ pub record Hears (rs : List Region) (n : ℕ) (e : Heard) : Type 0 where
 abbrev pub line_in : List ℕ → ℕ → ℕ → List ℕ
 line_in out at end = take (end - at) (drop at out)
 
--- the output d has become d': the line stands in it from `at` on, up to the end that r has, and the other bytes are as they were; a
--- refusal has no line
-pub record Stands (d : List ℕ) (at : ℕ) (d' : List ℕ) (r : Printed) : Type 0 where
+-- where the output ends after an answer: where that says; after a refusal where it ended
+abbrev pub end_of : ℕ → Result ℕ Refusal → ℕ
+end_of at (Ok n) = n
+end_of at (Err e) = at
+
+-- the output d has become d': the line stands in it from `at` to where it ends now, and the other bytes are as they were; a refusal has no
+-- line
+pub record Stands (d : List ℕ) (at : ℕ) (d' : List ℕ) (r : Result ℕ Refusal) : Type 0 where
   pub sized : length d' ≡ length d
-  pub pastes : d' ≡ paste d at (line_in d' at r.end) (r.end - at)
-  pub starts : at ≤ r.end
-  pub ends : r.end ≤ length d
-  pub silent : 0 < r.go → r.end ≡ at
-  pub unchanged : 0 < r.go → d' ≡ d
+  pub pastes : d' ≡ paste d at (line_in d' at (end_of at r)) (end_of at r - at)
+  pub starts : at ≤ end_of at r
+  pub ends : end_of at r ≤ length d
+  pub unchanged : (e : Refusal) → r ≡ Err e → d' ≡ d
 
--- M has been followed from x to y, for all regions that the table tells, and t is its line
-abbrev pub Comes : {A : Type 0} → List ℕ → Act A → List ℕ × List ℕ → List ℕ → ℕ → ℕ → List ℕ × List ℕ → List ℕ → Printed → A → Type 0
-Comes table M x d at go y t r v =
-    (rs : List Region) → Tells table rs → Follows telling (Hears rs (length d - at)) 1 M (x, []) (told go) (y, t) (told r.go) v
+-- M has been followed from x to y, for all regions that the table tells, in at most k writes, and t is its line
+abbrev pub Comes : {A : Type 0} → List ℕ → ℕ → Act A → List ℕ × List ℕ → List ℕ → ℕ → List ℕ × List ℕ → List ℕ → Result A Refusal → Type 0
+Comes table k M x d at y t r = (rs : List Region) → Tells table rs → Follows telling (Hears rs (length d - at)) k M (x, []) (y, t) r
 
--- and the line stands in the output, d before and d' after
-pub record Printing {A : Type 0} (table : List ℕ) (M : Act A) (x : List ℕ × List ℕ) (d : List ℕ) (at go : ℕ) (y : List ℕ × List ℕ) (d' : List ℕ)
-    (r : Printed) (v : A) : Type 0 where
-  pub follows : Comes table M x d at go y (line_in d' at r.end) r v
-  pub stands : Stands d at d' r
+-- and the line stands in the output, d before and d' after; e says where that ends, and r the block's value
+pub record Printing {A : Type 0} (table : List ℕ) (k : ℕ) (M : Act A) (x : List ℕ × List ℕ) (d : List ℕ) (at : ℕ) (y : List ℕ × List ℕ) (d' : List ℕ)
+    (e : Result ℕ Refusal) (r : Result A Refusal) : Type 0 where
+  pub follows : Comes table k M x d at y (line_in d' at (end_of at e)) r
+  pub stands : Stands d at d' e
 
--- the contract: the lent table, cells, log and output, where the output has been written so far, and the verdict
-abbrev pub Prints : {A : Type 0} → Act A → Lent → Lent → Shown → Lent → ℕ → ℕ → Printed → A → Type 0
-Prints M cells log table out at go r v =
-    Printing table.entry.now M (cells.entry.now, log.entry.now) out.entry.now at go (cells.exit.now, log.exit.now)
-    out.exit.now r v
+-- the contract of a process: its value v, the lent table, cells, log and output, and where the output has been written so far; r is the
+-- refusal, or where the output ends now
+abbrev pub Prints : {A : Type 0} → Act A → A → Lent → Lent → Shown → Lent → ℕ → Result ℕ Refusal → Type 0
+Prints M v cells log table out at r =
+    Printing table.entry.now 1 M (cells.entry.now, log.entry.now) out.entry.now at (cells.exit.now, log.exit.now)
+    out.exit.now r (seen_as (λ _. v) r)
 
 -- how J152 and J153 end
 abbrev pub print_pop : List ℕ → Act (Unit {0})

@@ -14,18 +14,11 @@ ghost use Rattle.undo.specs.Log.{Room};
 ghost use Rattle.printing.specs.Text.{Writes, Text, Puts};
 ghost use Rattle.printing.specs.Telling.{print_pop, Prints};
 
-use paper::{Symbol, limits};
-use regions::{Named, Table};
+use paper::{Refusal, Symbol, limits};
+use regions::Table;
 
 // The scratch for a line.
 type Line = [u8; limits::LONGEST_LINE];
-
-// The verdict, and where the output ends.
-#[derive(Clone, Copy)]
-pub struct Printed {
-    pub go: u32,
-    pub end: usize,
-}
 
 // Five digits are enough for a number of 16 bits.
 fn wide(x: u16) -> u32
@@ -119,10 +112,9 @@ fn cell_text(line: &mut Line, table: &Table, c: u16) -> usize
     requires { length line.old ≡ longest_line }
     ensures { Text longest_symbol_line line.old (cell_text c (letters_of (rows_of table.now) c)) line.new result }
 {
-    let x = regions::letters_of(table, c);
-    match x {
-        Named::As(letter, n) => lettered(line, letter, limits::CELL_DIGITS, wide(n)),
-        Named::Nothing => number(line, limits::CELL_DIGITS, wide(c)),
+    match regions::letters_of(table, c) {
+        Some((letter, n)) => lettered(line, letter, limits::CELL_DIGITS, wide(n)),
+        None => number(line, limits::CELL_DIGITS, wide(c)),
     }
 }
 
@@ -164,11 +156,7 @@ fn write_line(out: &mut [u8], at: usize, line: &Line, len: usize) -> usize
     requires { (at + len ≤ length out.old) × (length line.now ≡ longest_line) × (len ≤ longest_line) }
     ensures { (result ≡ at + len) × (out.new ≡ paste out.old at line.now len) }
 {
-    let mut i = 0;
-    while i < len {
-        out[at + i] = line[i];
-        i += 1;
-    }
+    out[at..at + len].copy_from_slice(&line[..len]);
     at + len
 }
 
@@ -190,24 +178,16 @@ fn print(
     table: &Table,
     out: &mut [u8],
     at: usize,
-    go: u32,
     line: &mut Line,
     n: usize,
-) -> Printed
+) -> Result<usize, Refusal>
     requires { Room log.old 1 × Told table.now × (at ≤ length out.old) × (length line.old ≡ longest_line) × (n < longest_line) }
-    ensures { Prints (print_pop (take n line.old)) cells log table out at go result tt }
+    ensures { Prints (print_pop (take n line.old)) tt cells log table out at result }
 {
     let len = end_line(line, n);
-    let go = undo::refuse_if(go, out.len() - at < len, 30, 0);
-    if go != 0 {
-        return Printed { go: go, end: at };
-    }
-    let go = acts::pop(cells, log, go, table[0] as u16);
-    if go != 0 {
-        return Printed { go: go, end: at };
-    }
-    let end = write_line(out, at, line, len);
-    Printed { go: go, end: end }
+    undo::refuse_if(out.len() - at < len, Refusal::NoRoom)?;
+    acts::pop(cells, log, table[0] as u16)?;
+    Ok(write_line(out, at, line, len))
 }
 
 // "J152 prints a symbol"
@@ -217,15 +197,14 @@ fn j152(
     table: &Table,
     out: &mut [u8],
     at: usize,
-    go: u32,
-) -> Printed
+) -> Result<usize, Refusal>
     requires { Room log.old 1 × Told table.now × (at ≤ length out.old) }
-    ensures { Prints J152 cells log table out at go result tt }
+    ensures { Prints J152 tt cells log table out at result }
 {
     let w = acts::own(cells, limits::H0);
     let mut line: Line = [0; limits::LONGEST_LINE];
     let n = symbol_text(&mut line, table, cells::symbol(w));
-    print(cells, log, table, out, at, go, &mut line, n)
+    print(cells, log, table, out, at, &mut line, n)
 }
 
 // "J153 an integer", or a floating term
@@ -235,16 +214,15 @@ fn j153(
     table: &Table,
     out: &mut [u8],
     at: usize,
-    go: u32,
-) -> Printed
+) -> Result<usize, Refusal>
     requires { Room log.old 1 × Told table.now × (at ≤ length out.old) }
-    ensures { Prints J153 cells log table out at go result tt }
+    ensures { Prints J153 tt cells log table out at result }
 {
     let w = acts::own(cells, limits::H0);
-    let t = acts::term_at(cells, go, (w / cells::SYMB % 65536) as u16);
+    let x = acts::term_at(cells, cells::symbol(w).num)?;
     let mut line: Line = [0; limits::LONGEST_LINE];
-    let n = term_text(&mut line, t.x);
-    print(cells, log, table, out, at, t.go, &mut line, n)
+    let n = term_text(&mut line, x);
+    print(cells, log, table, out, at, &mut line, n)
 }
 
 // J152 or J153.
@@ -254,14 +232,13 @@ pub fn on_lines(
     table: &Table,
     out: &mut [u8],
     at: usize,
-    go: u32,
     j: u16,
-) -> Printed
+) -> Result<usize, Refusal>
     requires { Room log.old 1 × Told table.now × (at ≤ length out.old) × (152 ≤ j) × (j ≤ 153) }
-    ensures { Prints (perform j) cells log table out at go result (and_then goes_on) }
+    ensures { Prints (perform j) (and_then goes_on) cells log table out at result }
 {
     if j == 152 {
-        return j152(cells, log, table, out, at, go);
+        return j152(cells, log, table, out, at);
     }
-    j153(cells, log, table, out, at, go)
+    j153(cells, log, table, out, at)
 }
