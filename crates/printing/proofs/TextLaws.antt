@@ -1,18 +1,16 @@
 -- Writing the text of a line: one byte after another, digits, the names of cells; and a line that is copied out.
-use Rattle.paper.proofs.Kit.{ℕ, zero, suc, ◌+◌, ◌-◌, ◌/◌, ◌%◌, ◌^◌, ◌<◌, ◌≤◌, ◌≡◌, refl, ap, ◌∙◌, sym, subst, true, false, ◌≢◌, Option, none, some, List, [], ◌∷◌, ◌++◌}
-use Rattle.paper.proofs.Kit.{append_assoc, append-nil, arith, add-one, lt-ltb, le-ltb, eq-eqb, ne_eqb, length, get_or, take, drop, set, length-append}
-use Rattle.paper.proofs.Kit.{length-set, take-suc-set, paste, paste-suc}
-use Rattle.std.specs.Prelude.{Option as Answer, Some, None}
+use Rattle.paper.proofs.Kit.{ℕ, zero, suc, ◌+◌, ◌-◌, ◌/◌, ◌%◌, ◌^◌, ◌<◌, ◌≤◌, ◌≡◌, refl, ap, ◌∙◌, sym, subst, true, false, ◌≢◌, List, [], ◌∷◌, ◌++◌}
+use Rattle.paper.proofs.Kit.{append_assoc, append-nil, arith, add-one, lt-ltb, le-ltb, eq-eqb, ne_eqb, length, take, drop, set, length-append}
+use Rattle.paper.proofs.Kit.{length-set, take-suc-set, paste}
 use Rattle.paper.specs.declared.Symbol.{Symbol}
 use Rattle.paper.specs.Step.{choose}
 use Rattle.paper.specs.Region.{Region, letters_of}
-use Rattle.paper.specs.Limits.{cell_digits, hex_digits, longest_symbol_line, longest_line}
+use Rattle.paper.specs.Limits.{hex_digits, longest_line}
 use Rattle.paper.specs.Term.{is_integer}
-use Rattle.paper.specs.Print.{nine_byte, minus_byte, digits_by, digits, integer_text, hex_digit, hex_by, term_text, cell_text, local_text, symbol_text}
-use Rattle.paper.proofs.LineLaws.{digits-length, hex-length, cell-digits}
+use Rattle.paper.specs.Print.{digits_by, digits, integer_text, hex_digit, hex_by, term_text, cell_text, local_text, symbol_text}
+use Rattle.paper.proofs.LineLaws.{hex-length}
 use Rattle.cells.specs.Layout.{value_of, bits_of, term_of}
 use Rattle.cells.proofs.Laws.{value_low, value-high, integer-is, floating-is}
-use Rattle.regions.specs.Lent.{letters_in}
 use Rattle.printing.specs.Text.{Writes, Text, Puts}
 
 pub writes-none : (l : List ℕ) (at : ℕ) → Writes l at [] l at
@@ -65,23 +63,15 @@ unfolding hex_by
 hex-more zero n z = absurd (z refl)
 hex-more (suc k) n z = let p : suc k - 1 ≡ k = omega arith in rw (p, hex_by)
 
--- a text: another that is the same, within a larger bound; the digits of a number, alone or after a byte or two
-pub text-as : {j k : ℕ} {l l' : List ℕ} {r : ℕ} {t u : List ℕ} → j ≤ k → t ≡ u → Text j l t l' r → Text k l u l' r
-text-as {k = k} {l} {l'} {r} h p w = record { writes = writes_as p w.writes; short = omega (arith, w.short) }
+-- a text: another that is the same; what was written from the start, alone or after a byte
+pub text-as : {k : ℕ} {l l' : List ℕ} {r : ℕ} {t u : List ℕ} → t ≡ u → Text k l t l' r → Text k l u l' r
+text-as p w = record { writes = writes_as p w.writes; short = w.short }
 
-pub text-digits : {l l' : List ℕ} {r : ℕ} (k n : ℕ) → Writes l 0 (digits_by k n) l' r → Text (k + 1) l (digits_by k n) l' r
-text-digits k n w = record { writes = w; short = omega (arith, w.end, digits-length k n) }
+pub text-of : {k : ℕ} {l l' : List ℕ} {r : ℕ} {t u : List ℕ} → t ≡ u → r < k → Writes l 0 t l' r → Text k l u l' r
+text-of p h w = record { writes = writes_as p w; short = h }
 
-pub text-lettered : {l l' : List ℕ} {r : ℕ} (b k n : ℕ) → 0 < length l → Writes (set l 0 b) 1 (digits_by k n) l' r → Text (k + 2) l (b ∷ digits_by k n) l' r
-text-lettered {l} b k n h w = record { writes = writes_more (writes_one l 0 b h) w; short = omega (arith, w.end, digits-length k n) }
-
-pub text-local : {l l' : List ℕ} {r c : ℕ} (n : ℕ) → 1 < length l → (n ≡ c) × (n < 10 ^ cell_digits)
-    → Writes (set (set l 0 nine_byte) 1 minus_byte) 2 (digits_by cell_digits n) l' r → Text longest_symbol_line l (local_text c) l' r
-text-local {l} n h e w =
-    let first = writes_one l 0 nine_byte (omega arith) in
-    let second = writes_one (set l 0 nine_byte) 1 minus_byte (omega (arith, first.sized)) in
-    let same = ap (λ (t : List ℕ). nine_byte ∷ minus_byte ∷ t) (cell-digits n e.1 ∙ ap digits e.0) in
-    record { writes = writes_as same (writes_more first (writes_more second w)); short = omega (arith, w.end, digits-length cell_digits n) }
+pub text-after : {k : ℕ} {l l' : List ℕ} {r : ℕ} {t u : List ℕ} (b : ℕ) → b ∷ t ≡ u → r < k → 0 < length l → Writes (set l 0 b) 1 t l' r → Text k l u l' r
+text-after {l = l} b p h z w = text-of p h (writes_more (writes_one l 0 b z) w)
 
 -- an integer from its excess
 pub integer-low : (v : ℕ) → v < 2 ^ 31 → 45 ∷ digits (2 ^ 31 - v) ≡ integer_text (value_of v)
@@ -102,19 +92,6 @@ pub text-hex : {l l' : List ℕ} {r : ℕ} (x : ℕ) → is_integer (term_of x) 
 unfolding term_text
 text-hex x e w = rw (floating-is x e, term_text) (record { writes = w; short = omega (arith, w.end, hex-length hex_digits (bits_of x)) })
 
--- a cell by what the table says of it
-pub text-named : {m : Answer (ℕ × ℕ)} {o : Option (ℕ × ℕ)} {b n k : ℕ} (c : ℕ) → letters_in m ≡ o → m ≡ Some (b, n) → (k ≡ n) × (k < 10 ^ cell_digits)
-    → b ∷ digits_by cell_digits k ≡ cell_text c o
-unfolding cell_text
-text-named {o = o} {b = b} {n = n} {k = k} c p e h =
-    let q : o ≡ some (b, n) = sym p ∙ ap letters_in e in
-    rw (q, ← h.0, cell-digits k h.1)
-
-pub text-unnamed : {m : Answer (ℕ × ℕ)} {o : Option (ℕ × ℕ)} {k : ℕ} (c : ℕ) → letters_in m ≡ o → m ≡ None → (k ≡ c) × (k < 10 ^ cell_digits)
-    → digits_by cell_digits k ≡ cell_text c o
-unfolding cell_text
-text-unnamed {o = o} {k = k} c p e h = let q : o ≡ none = sym p ∙ ap letters_in e in rw (q) (cell-digits k h.1 ∙ ap digits h.0)
-
 -- a symbol, by its tag
 module _ (rs : List Region) (x : Symbol) where
   pub symbol-local : x.tag ≡ 2 → local_text x.num ≡ symbol_text rs x
@@ -125,20 +102,15 @@ module _ (rs : List Region) (x : Symbol) where
   unfolding symbol_text choose
   symbol-regional l h = rw (symbol_text, ne_eqb x.tag 2 l, eq-eqb x.tag 0 h, choose)
 
-  pub symbol-other : {n : ℕ} → x.tag ≢ 2 → x.tag ≢ 0 → (n ≡ x.num) × (n < 10 ^ cell_digits) → digits_by cell_digits n ≡ symbol_text rs x
+  pub symbol-other : x.tag ≢ 2 → x.tag ≢ 0 → digits x.num ≡ symbol_text rs x
   unfolding symbol_text choose
-  symbol-other {n} l z e = rw (symbol_text, ne_eqb x.tag 2 l, ne_eqb x.tag 0 z, choose) (cell-digits n e.1 ∙ ap digits e.0)
-
--- a line copied out, byte by byte
-pub paste_more : (d : List ℕ) (at : ℕ) (s : List ℕ) (j : ℕ) {l : List ℕ} → at + j < length d → j < length s → l ≡ paste d at s j
-    → set l (at + j) (get_or s j 0) ≡ paste d at s (j + 1)
-paste_more d at s j h g e = rw (e, add-one) (paste-suc d at s j 0 h g)
+  symbol-other l z = rw (symbol_text, ne_eqb x.tag 2 l, ne_eqb x.tag 0 z, choose) refl
 
 -- a text with its line feed, copied out
-pub puts-line : {k : ℕ} {l l₁ l₂ : List ℕ} {e len : ℕ} {t : List ℕ} (d : List ℕ) (at : ℕ) {d' : List ℕ} {r : ℕ} → Text k l t l₁ e → Writes l₁ e (10 ∷ []) l₂ len
+pub puts-line : {l l₁ l₂ : List ℕ} {e len : ℕ} {t : List ℕ} (d : List ℕ) (at : ℕ) {d' : List ℕ} {r : ℕ} → Writes l 0 t l₁ e → Writes l₁ e (10 ∷ []) l₂ len
     → r ≡ at + len → d' ≡ paste d at l₂ len → Puts d at (t ++ (10 ∷ [])) d' r
 puts-line {len = len} {t = t} d at text feed p q =
-    let w = writes_more text.writes feed in
+    let w = writes_more text feed in
     record {
       end = omega (arith, p, w.end);
       bytes = q ∙ ap (λ (x : List ℕ). take at d ++ x ++ drop (at + len) d) w.text ∙ ap (λ (k : ℕ). take at d ++ (t ++ (10 ∷ [])) ++ drop k d) (sym p);

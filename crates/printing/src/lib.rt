@@ -5,7 +5,7 @@ ghost use Rattle.std.specs.Prelude.{◌≡◌, [], ◌∷◌, ◌+◌, ◌^◌, 
 ghost use Rattle.std.proofs.Math.Seq.{paste};
 ghost use Rattle.paper.specs.Limits.{cell_digits, longest_symbol_line, longest_line};
 ghost use Rattle.paper.specs.Region.{letters_of};
-ghost use Rattle.paper.specs.Print.{digits_by, integer_text, hex_digit, hex_by, term_text, cell_text, local_text, symbol_text};
+ghost use Rattle.paper.specs.Print.{digits_by, digits, integer_text, hex_digit, hex_by, term_text, cell_text, local_text, symbol_text};
 ghost use Rattle.paper.specs.Program.{answer_line};
 ghost use Rattle.paper.specs.Process.{J152, J153, perform, then as and_then, goes_on};
 ghost use Rattle.cells.specs.Layout.{value_of, term_of};
@@ -19,13 +19,6 @@ use regions::Table;
 
 // The scratch for a line.
 type Line = [u8; limits::LONGEST_LINE];
-
-// Five digits are enough for a number of 16 bits.
-fn wide(x: u16) -> u32
-    ensures { (result ≡ x) × (result < 10 ^ cell_digits) }
-{
-    x as u32
-}
 
 // The decimal digits of n, or where k are too few its last k.
 fn digits(line: &mut Line, at: usize, k: usize, n: u32) -> usize
@@ -44,21 +37,12 @@ fn digits(line: &mut Line, at: usize, k: usize, n: u32) -> usize
     end + 1
 }
 
-// A number alone.
-fn number(line: &mut Line, k: usize, n: u32) -> usize
-    requires { (length line.old ≡ longest_line) × (k < longest_line) }
-    ensures { Text (k + 1) line.old (digits_by k n) line.new result }
+// The digits of a cell's number.
+fn number(line: &mut Line, at: usize, n: u16) -> usize
+    requires { (length line.old ≡ longest_line) × (at + cell_digits ≤ longest_line) }
+    ensures { Writes line.old at (digits n) line.new result × (result ≤ at + cell_digits) }
 {
-    digits(line, 0, k, n)
-}
-
-// A letter or a sign, then a number.
-fn lettered(line: &mut Line, letter: u8, k: usize, n: u32) -> usize
-    requires { (length line.old ≡ longest_line) × (k + 1 < longest_line) }
-    ensures { Text (k + 2) line.old (letter ∷ digits_by k n) line.new result }
-{
-    line[0] = letter;
-    digits(line, 1, k, n)
+    digits(line, at, limits::CELL_DIGITS, u32::from(n))
 }
 
 // The integer v - 2^31.
@@ -67,9 +51,10 @@ fn integer_text(line: &mut Line, v: u32) -> usize
     ensures { Text longest_line line.old (integer_text (value_of v)) line.new result }
 {
     if v < cells::ZERO {
-        return lettered(line, b'-', limits::MOST_DIGITS, cells::ZERO - v);
+        line[0] = b'-';
+        return digits(line, 1, limits::MOST_DIGITS, cells::ZERO - v);
     }
-    number(line, limits::MOST_DIGITS, v - cells::ZERO)
+    digits(line, 0, limits::MOST_DIGITS, v - cells::ZERO)
 }
 
 // A hex digit, in capitals.
@@ -113,8 +98,11 @@ fn cell_text(line: &mut Line, table: &Table, c: u16) -> usize
     ensures { Text longest_symbol_line line.old (cell_text c (letters_of (rows_of table.now) c)) line.new result }
 {
     match regions::letters_of(table, c) {
-        Some((letter, n)) => lettered(line, letter, limits::CELL_DIGITS, wide(n)),
-        None => number(line, limits::CELL_DIGITS, wide(c)),
+        Some((letter, n)) => {
+            line[0] = letter;
+            number(line, 1, n)
+        }
+        None => number(line, 0, c),
     }
 }
 
@@ -125,7 +113,7 @@ fn local_text(line: &mut Line, c: u16) -> usize
 {
     line[0] = b'9';
     line[1] = b'-';
-    digits(line, 2, limits::CELL_DIGITS, wide(c))
+    number(line, 2, c)
 }
 
 // A symbol by its tag: local; regional; internal.
@@ -133,13 +121,11 @@ fn symbol_text(line: &mut Line, table: &Table, x: Symbol) -> usize
     requires { length line.old ≡ longest_line }
     ensures { Text longest_symbol_line line.old (symbol_text (rows_of table.now) x) line.new result }
 {
-    if x.tag == Symbol::LOCAL {
-        return local_text(line, x.num);
+    match x.tag {
+        Symbol::LOCAL => local_text(line, x.num),
+        Symbol::REGIONAL => cell_text(line, table, x.num),
+        _ => number(line, 0, x.num),
     }
-    if x.tag == Symbol::REGIONAL {
-        return cell_text(line, table, x.num);
-    }
-    number(line, limits::CELL_DIGITS, wide(x.num))
 }
 
 // "then one line feed"
@@ -166,7 +152,7 @@ pub fn number_line(out: &mut [u8], at: usize, n: u32) -> usize
     ensures { Puts out.old at (answer_line n) out.new result }
 {
     let mut line: Line = [0; limits::LONGEST_LINE];
-    let end = number(&mut line, limits::MOST_DIGITS, n);
+    let end = digits(&mut line, 0, limits::MOST_DIGITS, n);
     let len = end_line(&mut line, end);
     write_line(out, at, &line, len)
 }

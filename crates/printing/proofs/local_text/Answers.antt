@@ -1,6 +1,8 @@
-use Rattle.paper.proofs.Kit.{arith}
-use Rattle.printing.proofs.TextLaws.{text-local}
+use Rattle.paper.proofs.Kit.{ℕ, refl, arith, length-set}
+use Rattle.printing.proofs.TextLaws.{writes_one, writes_more, text-after}
 use Rattle.printing.proofs.local_text.Goals as goal
 
 pub returns : goal.returns
-returns c = text-local _ (omega arith) c.wide.ensures c.digits.ensures
+returns c =
+    let w = c.number.ensures in
+    text-after _ refl (omega (arith, w.1)) (omega arith) (writes_more (writes_one _ _ _ (omega (arith, length-set {A = ℕ}))) w.0)
