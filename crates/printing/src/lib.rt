@@ -1,7 +1,7 @@
 // Printing: the text of a line, J152 and J153. A line goes to the output, line feed included, once nothing of its process can be refused.
 #![tactic(auto)]
 
-ghost use Rattle.std.specs.Prelude.{◌≡◌, [], ◌∷◌, ◌+◌, ◌^◌, ◌<◌, ◌≤◌, length, take};
+ghost use Rattle.std.specs.Prelude.{◌≡◌, [], ◌∷◌, ◌+◌, ◌<◌, ◌≤◌, length, take};
 ghost use Rattle.std.proofs.Math.Seq.{paste};
 ghost use Rattle.paper.specs.Limits.{cell_digits, longest_symbol_line, longest_line};
 ghost use Rattle.paper.specs.Region.{letters_of};
@@ -68,7 +68,7 @@ fn hex_digit(d: u8) -> u8
     b'A' + (d - 10)
 }
 
-// The last k hex digits of n.
+// The last k hex digits of n. `digits` stops at the first, and this keeps leading zeros: no function of a base is both.
 fn hex(line: &mut Line, at: usize, k: usize, n: u32) -> usize
     requires { (length line.old ≡ longest_line) × (at + k ≤ longest_line) }
     ensures { Writes line.old at (hex_by k n) line.new result }
