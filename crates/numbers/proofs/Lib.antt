@@ -1,3 +1,2 @@
--- Laws of integers as numbers of the code, of what an operation gives, and of pairs.
-pub mod Laws
+-- Laws of what an operation gives.
 pub mod Fitting

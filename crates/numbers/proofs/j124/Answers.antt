@@ -1,22 +1,31 @@
-use Rattle.undo.proofs.Log.{writes-most}
-use Rattle.undo.proofs.Lines.{looks, reads, puts, once}
-use Rattle.steps.proofs.Sequence.{any, any-sees, test, when, then, alike}
+use Rattle.acts.proofs.Auto.{acting}
+use Rattle.steps.proofs.Sequence.{same_err}
 use Rattle.paper.specs.Process.{J124}
-use Rattle.paper.specs.Act.{gives}
-use Rattle.paper.proofs.Kit.{◌/◌, ◌%◌, ap, arith, rules}
 use Rattle.numbers.proofs.j124.Goals as goal
 
-pub put-requires : goal.put-requires
-put-requires c =
-    (record { fits = omega (arith, writes-most (c.own-w0.result / 65536 % 65536)) }, search rules)
+pub returns-in_err-x : goal.returns-in_err-x
+unfolding J124
+returns-in_err-x c = let e = c.in_err-x.ensures in rw (same_err c.from_residual.ensures.1) (search acting depth 20)
 
-pub gives1-requires : goal.gives1-requires
-gives1-requires c =
-    record { fits = omega (arith, writes-most (c.own-w0.result / 65536 % 65536), c.put.ensures.kept.count); ends = omega arith }
+pub returns-in_err-refuse_if : goal.returns-in_err-refuse_if
+unfolding J124
+returns-in_err-refuse_if c =
+    let h0 = c.in_ok-x.ensures in
+    let e = c.in_err-refuse_if.ensures in
+    rw (same_err c.from_residual-in_err-refuse_if.ensures.1) (search acting depth 20)
+
+pub returns-in_err-refuse_if-2 : goal.returns-in_err-refuse_if-2
+unfolding J124
+returns-in_err-refuse_if-2 c =
+    let h0 = c.in_ok-x.ensures in
+    let h1 = c.in_ok-refuse_if.ensures in
+    let e = c.in_err-refuse_if-2.ensures in
+    rw (same_err c.from_residual-in_err-refuse_if-2.ensures.1) (search acting depth 20)
 
 pub returns : goal.returns
 unfolding J124
 returns c =
-    looks _ (any-sees c.own-w0.ensures) (reads _ (any c.target-g.ensures)
-    (test (when _ c.is_process.ensures c.refuse_if-go.ensures) (test (when _ c.reserved.ensures c.refuse_if-go-2.ensures)
-    (then (any (once _ _ (puts _ c.of_integer.ensures c.put.ensures))) (alike (ap (gives 1) c.symbol.ensures) c.gives1.ensures)))))
+    let h0 = c.in_ok-x.ensures in
+    let h1 = c.in_ok-refuse_if.ensures in
+    let h2 = c.in_ok-refuse_if-2.ensures in
+    search acting depth 20

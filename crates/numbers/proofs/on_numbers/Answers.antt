@@ -2,7 +2,7 @@ use Rattle.acts.proofs.Dispatch.{arms, unlisted}
 use Rattle.steps.proofs.Listed.{entry_for, none_for}
 use Rattle.paper.specs.Process.{listed}
 use Rattle.paper.specs.Walk.{member}
-use Rattle.paper.proofs.Kit.{[], ◌∷◌, refl, arith}
+use Rattle.paper.proofs.Kit.{[], ◌∷◌, refl, arith, rules}
 use Rattle.numbers.proofs.on_numbers.Goals as goal
 
 pub returns-in-110 : goal.returns-in-110
@@ -57,4 +57,4 @@ pub returns-in_default : goal.returns-in_default
 unfolding none_for listed member
 returns-in_default c =
     unlisted 110 129 _ (110 ∷ 111 ∷ 114 ∷ 115 ∷ 116 ∷ 117 ∷ 118 ∷ 119 ∷ 120 ∷ 123 ∷ 124 ∷ 125 ∷ []) refl (omega arith) (omega arith)
-    c.in_default.in_default-own.rest c.refuse_if.ensures
+    (search rules)

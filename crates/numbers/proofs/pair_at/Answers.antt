@@ -1,21 +1,29 @@
-use Rattle.paper.proofs.Kit.{sym, ◌∙◌}
+use Rattle.undo.proofs.Auto.{lines}
+use Rattle.steps.proofs.Sequence.{same_err}
 use Rattle.paper.specs.Process.{pair_at}
-use Rattle.undo.proofs.Early.{early}
-use Rattle.numbers.proofs.Fitting.{pair_is}
 use Rattle.numbers.proofs.pair_at.Goals as goal
 
-pub returns-then-u-ne0 : goal.returns-then-u-ne0
+pub returns-in_err-t : goal.returns-in_err-t
 unfolding pair_at
-returns-then-u-ne0 c = search (early, c.if-u-ne0.true) depth 20
+returns-in_err-t c = let e = c.in_err-t.ensures in rw (same_err c.from_residual.ensures.1) (search lines depth 20)
 
-pub returns-then-alike : goal.returns-then-alike
+pub returns-in_err-u : goal.returns-in_err-u
 unfolding pair_at
-returns-then-alike c =
-    let t = c.term_at-t.result in
-    let u = c.term_at-u.result in
-    let same = sym c.alike.ensures ∙ c.if-alike.true in
-    search (early, same, pair_is t.x u.x c.is_integer.result c.is_integer.ensures same) depth 20
+returns-in_err-u c =
+    let h0 = c.in_ok-t.ensures in
+    let e = c.in_err-u.ensures in
+    rw (same_err c.from_residual-in_err-u.ensures.1) (search lines depth 20)
+
+pub returns-then-not-alike : goal.returns-then-not-alike
+unfolding pair_at
+returns-then-not-alike c =
+    let h0 = c.in_ok-t.ensures in
+    let h1 = c.in_ok-u.ensures in
+    search lines depth 20
 
 pub returns : goal.returns
 unfolding pair_at
-returns c = search early depth 20
+returns c =
+    let h0 = c.in_ok-t.ensures in
+    let h1 = c.in_ok-u.ensures in
+    search lines depth 20

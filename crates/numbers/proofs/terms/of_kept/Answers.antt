@@ -1,9 +1,10 @@
-use Rattle.paper.proofs.Kit.{sym, ◌∙◌}
-use Rattle.numbers.proofs.Fitting.{kept-fits, kept-none}
+use Rattle.std.proofs.Common.{◌≡◌, ◌+◌, ◌^◌, arith}
+use Rattle.std.specs.Option.{option_map}
+use Rattle.std.proofs.lemmas.Grind.{common_steps}
+use Rattle.numbers.proofs.Fitting.{kept-gives}
 use Rattle.numbers.proofs.terms.of_kept.Goals as goal
 
-pub returns-in-Bits : goal.returns-in-Bits
-returns-in-Bits c = λ x f e. kept-fits x f _ (sym c.in-Bits.is ∙ e)
-
-pub returns-in-NotFinite : goal.returns-in-NotFinite
-returns-in-NotFinite c = λ x f e. kept-none x f (sym c.in-NotFinite.is ∙ e)
+pub returns : goal.returns
+returns c = λ x f e.
+    let h : option_map (λ b. 2 ^ 32 + b) c.args.k ≡ c.map.result = grind (arith, common_steps) in
+    rw (← h) (kept-gives x f c.args.k e)
