@@ -1,8 +1,9 @@
 -- Taking a new cell for each old one and then copying is `copy_into`, where the free list goes over new cells, each once: the empty words
 -- that stand in them in between are written over, and no old cell is one of them.
-use Rattle.paper.proofs.Kit.{clash, ℕ, zero, suc, ◌<◌, ◌≡◌, refl, sym, ap, ◌∙◌, subst, Bool, true, false, List, [], ◌∷◌, map, ◌≢◌, Option, arith, eqb-true}
+use Rattle.paper.proofs.Kit.{clash, ℕ, zero, suc, ◌<◌, ◌≡◌, refl, sym, ap, ◌∙◌, subst, Bool, true, false, List, [], ◌∷◌, map, ◌≢◌, arith, eqb-true}
 use Rattle.paper.proofs.Kit.{eqb-false, ltb-true, ltb-false, ne_eqb, eq-eqb, eqb, ltb, length, set, length-set, List·getD-eq-default, get_or-set_same}
 use Rattle.paper.proofs.Kit.{get_or-set_other, set-set, set_comm, set-get_or, set_out, ext_get_or}
+use Rattle.std.specs.Prelude.{Result}
 use Rattle.paper.specs.declared.Refusal.{Refusal}
 use Rattle.paper.specs.Cell.{State, Word, Cell, free, word, term, process, is_free, word_in, free_link, empty_word, with_link, with_cells, cell_at}
 use Rattle.paper.specs.Act.{Res, done, ◌>>=◌, ◌>>◌, ret, own, peek, put, take_as}
@@ -219,9 +220,9 @@ copy-net new [] s y c h n r o u = absurd (omega arith)
 copy-net new (d ∷ os) s y c h n r o u = both new (d ∷ os) s y c n (linked-word (cell_at s.cells 3) r.1) r o u
 
 -- carried to the numbers
-pub copy-into : {K : Rest → Type 0} {k : ℕ} (new : ℕ → ℕ) (olds : List ℕ) (y c : ℕ) {s l : List ℕ} {z : List ℕ × List ℕ} {a e : Option Refusal} {v : ℕ}
+pub copy-into : {K : Rest → Type 0} {k : ℕ} (new : ℕ → ℕ) (olds : List ℕ) (y c : ℕ) {s l : List ℕ} {z : List ℕ × List ℕ} {e : Result ℕ Refusal}
     → 0 < length olds → renamed olds (map new olds) ≡ new
     → Run (unpacked s) (word_in (cell_at (unpacked s) 3)).link (map new olds) y → Once (map new olds)
     → ((k : ℕ) → member k olds ≡ true → is_free (cell_at (unpacked s) k) ≡ false)
-    → Follows lent K k (copy_into new y c olds) (s, l) a z e v → Follows lent K k (copy_of c olds) (s, l) a z e v
+    → Follows lent K k (copy_into new y c olds) (s, l) z e → Follows lent K k (copy_of c olds) (s, l) z e
 copy-into new olds y c {s} h n r o u d = alike-here (λ e k. copy-net new olds (state_of e s) y c h n r o u) d

@@ -1,6 +1,7 @@
 -- Releasing cells one after another is `free_all`, wherever there is an H2: what H2 holds in between is written over.
-use Rattle.paper.proofs.Kit.{ℕ, ◌<◌, ◌≡◌, refl, sym, ap, ◌∙◌, Bool, true, false, List, [], ◌∷◌, Option, eqb-true, eqb-false, eqb, length, set, length-set}
+use Rattle.paper.proofs.Kit.{ℕ, ◌<◌, ◌≡◌, refl, sym, ap, ◌∙◌, Bool, true, false, List, [], ◌∷◌, eqb-true, eqb-false, eqb, length, set, length-set}
 use Rattle.paper.proofs.Kit.{get_or-set_same, set-set, set_comm}
+use Rattle.std.specs.Prelude.{Result}
 use Rattle.paper.specs.declared.Refusal.{Refusal}
 use Rattle.paper.specs.Cell.{State, Word, Cell, free, word, word_in, with_link, with_cells, cell_at}
 use Rattle.paper.specs.Act.{done, ◌>>=◌, ◌>>◌, ret, own, put, release}
@@ -71,7 +72,7 @@ unfolding free_all own put last_of
 net-is ns c s = bind_ok _ _ _ _ _ refl (bind_ok _ _ _ _ _ (from_is (c ∷ ns) (top s).link s) refl)
 
 -- carried to the numbers
-pub free-net : {K : Rest → Type 0} {k : ℕ} (c : ℕ) (ns : List ℕ) {s l : List ℕ} {y : List ℕ × List ℕ} {a r : Option Refusal} → 3 < length s
-    → Follows lent K k (free_all (c ∷ ns)) (s, l) a y r tt → Follows lent K k (release_all (c ∷ ns)) (s, l) a y r tt
+pub free-net : {K : Rest → Type 0} {k : ℕ} (c : ℕ) (ns : List ℕ) {s l : List ℕ} {y : List ℕ × List ℕ} {r : Result (Unit {0}) Refusal} → 3 < length s
+    → Follows lent K k (free_all (c ∷ ns)) (s, l) y r → Follows lent K k (release_all (c ∷ ns)) (s, l) y r
 free-net c ns {s} h d =
     alike-here (λ e k. all_are ns c (state_of e s) (rw (unpacked-length s) h) ∙ sym (net-is ns c (state_of e s))) d

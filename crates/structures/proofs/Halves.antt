@@ -1,15 +1,13 @@
 -- As many cells can be taken as are free, and one: so where each of n cells in use has got a new one, there are no fewer than 2 n - 1 cells.
 use Rattle.paper.proofs.Kit.{clash, ℕ, zero, suc, ◌+◌, ◌<◌, ◌≤◌, ◌≡◌, refl, sym, ap, ◌∙◌, Bool, true, false, List, [], ◌∷◌, ◌≢◌, arith}
-use Rattle.paper.proofs.Kit.{Option, none, some, cond, eqb, eqb-true, eqb-false, eq-eqb, length, set, length-set}
+use Rattle.paper.proofs.Kit.{cond, eqb, eqb-true, eqb-false, eq-eqb, length, set, length-set}
 use Rattle.paper.proofs.Kit.{get_or-set_same, get_or-set_other}
 use Rattle.paper.specs.declared.Refusal.{Refusal}
 use Rattle.paper.specs.declared.Refusal.TheVariants.{NoFreeCell}
 use Rattle.paper.specs.Cell.{State, Cell, free, word, term, process, is_free, word_in, free_link, empty_word, with_link, with_cells, cell_at}
 use Rattle.paper.specs.Sound.{free_count}
-use Rattle.paper.specs.Step.{Step, refuse}
-use Rattle.paper.specs.Act.{Res, done, refused, ◌>>◌, ret, own, peek, put, take_as}
+use Rattle.paper.specs.Act.{Res, done, refused, ret, own, peek, put, take_as}
 use Rattle.paper.specs.Walk.{member, take_all}
-use Rattle.steps.specs.Follows.{left, To}
 use Rattle.steps.proofs.Steps.{bind_ok, bind-no, then_ok, then-no, passes, fails}
 use Rattle.structures.specs.Marks.{Once}
 use Rattle.structures.proofs.Run.{either-member}
@@ -167,9 +165,3 @@ most-taken (o ∷ p ∷ os) s e =
     let (z, r) = took-rest o (p ∷ os) s e in
     let (y, _) = took-rest p os (with_cells s (after s.cells)) r in
     omega (arith, most-taken (p ∷ os) (with_cells s (after s.cells)) r, one_less s.cells z y)
-
--- what was accepted was done
-pub accepted : {S E A : Type 0} {M : Step S E A} {t t' : S} (a : Option E) {v : A} → To M t a t' none v → M t ≡ done v t'
-unfolding left ◌>>◌ ret refuse
-accepted none d = d.is
-accepted {t' = t'} (some z) {v} d = let h : refused z ≡ done v t' = d.is in clash cc

@@ -8,13 +8,14 @@ use Rattle.structures.specs.Marks.{back, Once, Only}
 use Rattle.structures.proofs.Marks.{back_more}
 use Rattle.structures.specs.Copies.{new_of, news_of}
 
--- what is left of the first n of the order
+-- what is left of a list; of the first n of the order
+pub drop-at : (xs : List ℕ) (i : ℕ) → i < length xs → drop i xs ≡ get_or xs i 0 ∷ drop (i + 1) xs
+drop-at xs i h = drop-cons xs i 0 h ∙ ap (λ k. get_or xs i 0 ∷ drop k xs) (sym (add-one i))
+
 module _ (order : List ℕ) (n i : ℕ) where
   pub rest_more : i < n → n ≤ length order → drop i (take n order) ≡ get_or order i 0 ∷ drop (i + 1) (take n order)
   rest_more h l =
-      drop-cons (take n order) i 0 (omega (arith, length-take-le n order l))
-      ∙ ap (λ x. x ∷ drop (suc i) (take n order)) (get_or-take n order i 0 h)
-      ∙ ap (λ k. get_or order i 0 ∷ drop k (take n order)) (sym (add-one i))
+      drop-at (take n order) i (omega (arith, length-take-le n order l)) ∙ ap (λ x. x ∷ drop (i + 1) (take n order)) (get_or-take n order i 0 h)
 
   pub rest-none : n ≤ i → n ≤ length order → drop i (take n order) ≡ []
   rest-none h l = drop_of_length-le (take n order) {i = i} (omega (arith, length-take-le n order l))
@@ -38,6 +39,10 @@ member_back c xs = member-onto c xs [] ∙ last (member c xs)
     last : (b : Bool) → (b || false) ≡ b
     last true = refl
     last false = refl
+
+-- marks that are at cells of a list, whichever way it is met
+pub only_back : {marks : List ℕ} (xs : List ℕ) → Only marks (reverse xs) → Only marks xs
+only_back xs o = record { is = λ c e. o.is c (member_back c xs ∙ e) }
 
 pub member-end : (c y : ℕ) (xs : List ℕ) → member c xs ≡ false → (c ≡ y → ⊥) → member c (xs ++ (y ∷ [])) ≡ false
 unfolding member

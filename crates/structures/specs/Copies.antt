@@ -1,6 +1,5 @@
 -- A copy keeps the new cell of each old one in the marks: the table old to new.
-use Rattle.std.specs.Prelude.{ℕ, ◌+◌, ◌-◌, ◌<◌, ◌≤◌, ◌≡◌, true, false, cond, List, [], ◌∷◌, map, length, get_or, take, eqb}
-use Rattle.std.proofs.Math.Option.{Option}
+use Rattle.std.specs.Prelude.{ℕ, ◌+◌, ◌-◌, ◌<◌, ◌≤◌, ◌≡◌, true, false, List, [], ◌∷◌, map, length, get_or, take, Result, Ok, Err}
 use Rattle.paper.specs.declared.Refusal.{Refusal}
 use Rattle.paper.specs.Limits.{largest_n}
 use Rattle.paper.specs.Cell.{Cell, is_free, word_in, free_link, cell_at, H}
@@ -8,7 +7,6 @@ use Rattle.paper.specs.Walk.{member, copy_all}
 use Rattle.cells.specs.Bridge.{unpacked, cell_in}
 use Rattle.steps.specs.Follows.{Follows}
 use Rattle.undo.specs.Log.{used}
-use Rattle.undo.specs.Verdict.{told}
 use Rattle.undo.specs.Did.{Always, lent}
 use Rattle.structures.specs.declared.copies.Found.{Found}
 use Rattle.structures.specs.Marks.{back, blank, Once, Clears}
@@ -47,16 +45,22 @@ pub record AllNew (order marks : List ℕ) (found n : ℕ) : Type 0 where
   pub some : n ≡ 0 → ⊥
   pub last : member (new_of marks (get_or order (n - 1) 0)) (news_of marks order (n - 1)) ≡ false
 
--- so many writes, unless the verdict is a refusal
-abbrev pub due : ℕ → ℕ → ℕ
-due go n = cond (eqb go 0) n 0
+-- the new cells are noted for the first n of the order; a refusal takes all away
+abbrev pub Leaves : List ℕ → List ℕ → ℕ → Result (Unit {0}) Refusal → Type 0
+Leaves order marks n (Ok v) = Clears order marks n
+Leaves order marks n (Err e) = marks ≡ blank
 
 -- what is copied into the new cells from here on makes a copy of the first n of the order; the writes so far and those to come are at
 -- most one more than there are cells, since new cells are no old ones
-pub record Prepares (order marks : List ℕ) (n : ℕ) (x : List ℕ × List ℕ) (go : ℕ) (y : List ℕ × List ℕ) (r : ℕ) : Type 0 where
+pub record Prepared (order marks : List ℕ) (n : ℕ) (x y : List ℕ × List ℕ) : Type 0 where
   pub wrote : ℕ
-  pub on : (c j : ℕ) (z : List ℕ × List ℕ) (e : Option Refusal)
-      → Follows lent Always j (copy_all (new_of marks) (take n order) (news_of marks order n)) y (told r) z e tt
-      → Follows lent Always (wrote + j) (copy_of c (take n order)) x (told go) z e (new_of marks c)
+  pub on : (c j : ℕ) (z : List ℕ × List ℕ)
+      → Follows lent Always j (copy_all (new_of marks) (take n order) (news_of marks order n)) y z (Ok tt)
+      → Follows lent Always (wrote + j) (copy_of c (take n order)) x z (Ok (new_of marks c))
   pub count : used y.1 ≤ used x.1 + wrote
-  pub fits : wrote + due r n ≤ length x.0 + 1
+  pub fits : wrote + n ≤ length x.0 + 1
+
+-- or there is no copy, whichever of its cells were to name it
+abbrev pub Prepares : List ℕ → List ℕ → ℕ → List ℕ × List ℕ → List ℕ × List ℕ → Result (Unit {0}) Refusal → Type 0
+Prepares order marks n x y (Ok v) = Prepared order marks n x y
+Prepares order marks n x y (Err e) = (c : ℕ) → Follows lent Always (length x.0 + 1) (copy_of c (take n order)) x y (Err e)

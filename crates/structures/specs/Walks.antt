@@ -1,5 +1,6 @@
 -- The contracts of the walk: what it begins with, and what it leaves in the order and the marks.
-use Rattle.std.specs.Prelude.{ℕ, zero, suc, ◌+◌, ◌<◌, ◌≤◌, ◌≡◌, Bool, true, false, cond, ◌&&◌, not, List, length, get_or, ltb, eqb}
+use Rattle.std.specs.Prelude.{ℕ, suc, ◌+◌, ◌<◌, ◌≤◌, ◌≡◌, Bool, true, false, cond, ◌&&◌, not, List, length, get_or, ltb, eqb, Result, Ok, Err}
+use Rattle.paper.specs.declared.Refusal.{Refusal}
 use Rattle.paper.specs.Limits.{smallest_n, largest_n, first_deck, deepest}
 use Rattle.paper.specs.Cell.{Word, Cell, is_free, is_word, H}
 use Rattle.paper.specs.Act.{Act, ◌>>=◌, ◌>>◌, ret, refuse_if, if_then, named}
@@ -7,15 +8,13 @@ use Rattle.paper.specs.declared.Refusal.TheVariants.{WrongKind, BadWalk}
 use Rattle.paper.specs.Walk.{Trail, member, meet, enter}
 use Rattle.cells.specs.Layout.{unpack_of, word_of, q_of, symb_of}
 use Rattle.cells.specs.Bridge.{Rest}
-use Rattle.steps.specs.Follows.{Follows}
-use Rattle.undo.specs.Verdict.{told}
+use Rattle.steps.specs.Follows.{Follows, seen_as}
 use Rattle.undo.specs.Did.{Always, reading}
-use Rattle.structures.specs.declared.Walked.{Walked}
 use Rattle.structures.specs.Marks.{back, many_numbers, blank, Marked, unmet, Ordered}
 
--- M, unless go is a refusal, gets v from the numbers s, or is refused: the verdict r
-abbrev pub Gets : {A : Type 0} → (Rest → Type 0) → Act A → List ℕ → ℕ → ℕ → A → Type 0
-Gets K M s go r v = Follows reading K 0 M s (told go) s (told r) v
+-- M gets a value from the numbers s, or is refused: the answer r
+abbrev pub Gets : {A : Type 0} → (Rest → Type 0) → Act A → List ℕ → Result A Refusal → Type 0
+Gets K M s r = Follows reading K 0 M s s r
 
 abbrev pub trail : List ℕ → List ℕ → Trail
 trail cs heads = record { met = cs; entered = heads }
@@ -36,18 +35,22 @@ pub record Holds (s order marks : List ℕ) (n : ℕ) : Type 0 where
   pub room : n + unmet (length s) marks ≤ length s
 
 -- a walk that has ended leaves its marks, and z cells or fewer without; a refusal takes all marks away
-abbrev pub Left : List ℕ → List ℕ → List ℕ → ℕ → ℕ → ℕ → Type 0
-Left s order marks z zero n = Holds s order marks n × (unmet (length s) marks ≤ z)
-Left s order marks z (suc e) n = (length order ≡ largest_n) × (marks ≡ blank) × (n ≡ 0)
+abbrev pub Left : List ℕ → List ℕ → List ℕ → ℕ → Result ℕ Refusal → Type 0
+Left s order marks z (Ok n) = Holds s order marks n × (unmet (length s) marks ≤ z)
+Left s order marks z (Err e) = (length order ≡ largest_n) × (marks ≡ blank)
 
--- after the cells of `seen`, M comes to the verdict r and the cells `met`: whatever heads were entered before, they decide nothing
-pub record Visits (M : Trail → Act Trail) (s seen : List ℕ) (r : ℕ) (met : List ℕ) : Type 0 where
-  pub is : (heads : List ℕ) → (heads' : List ℕ) × Gets Always (M (trail seen heads)) s 0 r (trail met heads')
+-- after the cells of `seen`, M comes to the cells that r tells, or is refused: whatever heads were entered before, they decide nothing
+pub record Visits (M : Trail → Act Trail) (s seen : List ℕ) (r : Result (List ℕ) Refusal) : Type 0 where
+  pub is : (heads : List ℕ) → (heads' : List ℕ) × Gets Always (M (trail seen heads)) s (seen_as (λ met. trail met heads') r)
+
+-- how many cells of the order were met, as the cells themselves
+abbrev pub met_in : List ℕ → Result ℕ Refusal → Result (List ℕ) Refusal
+met_in order r = seen_as (λ n. back n order) r
 
 -- a part of a walk that began with the marks m: it ends as is claimed with any number of turns above the cells that have none
-pub record Ends (claim : ℕ → ℕ → List ℕ → Type 0) (s m order marks : List ℕ) (r : Walked) : Type 0 where
-  pub says : (f : ℕ) → unmet (length s) m < f → claim f r.go (back r.n order)
-  pub left : Left s order marks (unmet (length s) m) r.go r.n
+pub record Ends (claim : ℕ → Result (List ℕ) Refusal → Type 0) (s m order marks : List ℕ) (r : Result ℕ Refusal) : Type 0 where
+  pub says : (f : ℕ) → unmet (length s) m < f → claim f (met_in order r)
+  pub left : Left s order marks (unmet (length s) m) r
 
 -- the cell that comes next, reached by a LINK or as the head of a list at a depth: the checks of `follow` or of `enter`
 unfoldable pub arrives : Bool → ℕ → ℕ → List ℕ → Act Cell
@@ -59,8 +62,8 @@ arrives linked depth c seen = do
   ret x
 
 -- its number, or why not, after any cells of which the marks tell
-abbrev pub Arrives : List ℕ → List ℕ → Bool → ℕ → ℕ → ℕ → ℕ → Type 0
-Arrives s marks linked depth c r x = (seen : List ℕ) → Marked marks seen → Gets Always (arrives linked depth c seen) s 0 r (unpack_of x)
+abbrev pub Arrives : List ℕ → List ℕ → Bool → ℕ → ℕ → Result ℕ Refusal → Type 0
+Arrives s marks linked depth c r = (seen : List ℕ) → Marked marks seen → Gets Always (arrives linked depth c seen) s (seen_as unpack_of r)
 
 -- all of the checks pass of the cell c, which holds x
 pub record Fine (marks : List ℕ) (linked : Bool) (depth c : ℕ) (x : Cell) : Type 0 where
@@ -77,8 +80,8 @@ chains c seen = do
   refuse_if (member c seen) (BadWalk c)  -- 31
   ret w
 
-abbrev pub Chains : List ℕ → List ℕ → ℕ → ℕ → ℕ → Type 0
-Chains s marks c r x = (seen : List ℕ) → Marked marks seen → Gets Always (chains c seen) s 0 r (word_of x)
+abbrev pub Chains : List ℕ → List ℕ → ℕ → Result ℕ Refusal → Type 0
+Chains s marks c r = (seen : List ℕ) → Marked marks seen → Gets Always (chains c seen) s (seen_as word_of r)
 
 pub record FineLink (marks : List ℕ) (c : ℕ) (x : Cell) : Type 0 where
   pub high : H 2 < c
@@ -94,8 +97,11 @@ unfoldable pub sublist : ℕ → ℕ → ℕ → Trail → Act Trail
 sublist depth c f t = if_then (eqb c 0) (ret t) (enter f (suc depth) c t)
 
 -- a walk: its cells are in the order, and no cell is marked
-pub record Lists (block : Act (List ℕ)) (s : List ℕ) (go : ℕ) (order marks : List ℕ) (r : Walked) : Type 0 where
-  pub says : Gets Always block s go r.go (back r.n order)
-  pub few : r.n ≤ length s
-  pub ordered : Ordered s order r.n
+abbrev pub Listed : List ℕ → List ℕ → Result ℕ Refusal → Type 0
+Listed s order (Ok n) = (n ≤ length s) × Ordered s order n
+Listed s order (Err e) = length order ≡ largest_n
+
+pub record Lists (block : Act (List ℕ)) (s order marks : List ℕ) (r : Result ℕ Refusal) : Type 0 where
+  pub says : Gets Always block s (met_in order r)
+  pub listed : Listed s order r
   pub unmarked : marks ≡ blank

@@ -1,5 +1,5 @@
 // Freeing the cells of a walk or a chain, the last met first.
-ghost use Rattle.std.specs.Prelude.{◌≡◌, List, ℕ, ◌≤◌, length, take};
+ghost use Rattle.std.specs.Prelude.{◌≡◌, List, ℕ, ◌≤◌, length, take, Ok};
 ghost use Rattle.paper.specs.Limits.{smallest_n, largest_n, first_deck};
 ghost use Rattle.paper.specs.Walk.{none_reserved, release_all, erase_back, erase};
 ghost use Rattle.undo.specs.Log.{Room};
@@ -8,41 +8,35 @@ ghost use Rattle.structures.specs.Marks.{back};
 ghost use Rattle.structures.specs.Walks.{Clean, Gets};
 
 use crate::{Marks, Order, walks};
-use paper::limits;
+use paper::{Refusal, limits};
 
 // 24 at the first reserved cell among the first n of the order.
-fn none_reserved(order: &Order, n: usize, go: u32, top: u16) -> u32
+fn none_reserved(order: &Order, n: usize, top: u16) -> Result<(), Refusal>
     requires { (n ≤ largest_n) × (length order.now ≡ largest_n) × (first_deck ≤ top) }
-    ensures { (s : List ℕ) → Gets (Top top) (none_reserved (take n order.now)) s go result tt }
+    ensures { (s : List ℕ) → Gets (Top top) (none_reserved (take n order.now)) s result }
 {
-    let mut go = go;
-    let mut i = 0;
-    while i < n {
-        let c = order[i];
-        go = undo::refuse_if(go, acts::reserved(top, c), 24, c);
-        i += 1;
+    for c in &order[..n] {
+        undo::refuse_if(acts::reserved(top, *c), Refusal::NotToBeFreed(*c))?;
     }
-    go
+    Ok(())
 }
 
 // The first n cells of the order are freed, the last first: each is linked to the one freed before it, and H2 to the last.
-fn release_all(cells: &mut [u64], log: &mut [u64], order: &Order, n: usize, go: u32)
+fn release_all(cells: &mut [u64], log: &mut [u64], order: &Order, n: usize)
     requires { (n ≤ largest_n) × (length order.now ≡ largest_n) × (smallest_n ≤ length cells.old) × Room log.old n }
-    ensures { Did Always n (release_all (back n order.now)) cells log go go tt }
+    ensures { Did Always n (release_all (back n order.now)) cells log (Ok tt) }
 {
     if n == 0 {
         return;
     }
     let h = acts::own(cells, limits::H2);
     let mut l = (h % 65536) as u16;
-    let mut left = n;
-    while 0 < left {
-        let c = order[left - 1];
-        undo::put(cells, log, go, c, cells::of_free(l));
+    for i in (0..n).rev() {
+        let c = order[i];
+        undo::put(cells, log, c, cells::of_free(l));
         l = c;
-        left -= 1;
     }
-    undo::put(cells, log, go, limits::H2, cells::with_link(h, l));
+    undo::put(cells, log, limits::H2, cells::with_link(h, l));
 }
 
 // The first n cells of the order are freed, unless one is reserved.
@@ -51,15 +45,14 @@ pub(crate) fn erase_back(
     log: &mut [u64],
     order: &Order,
     n: usize,
-    go: u32,
     top: u16,
-) -> u32
+) -> Result<(), Refusal>
     requires { (n ≤ largest_n) × (length order.now ≡ largest_n) × (smallest_n ≤ length cells.old) × Suits log.old n top }
-    ensures { Did (Top top) n (erase_back (back n order.now)) cells log go result tt }
+    ensures { Did (Top top) n (erase_back (back n order.now)) cells log result }
 {
-    let go = none_reserved(order, n, go, top);
-    release_all(cells, log, order, n, go);
-    go
+    none_reserved(order, n, top)?;
+    release_all(cells, log, order, n);
+    Ok(())
 }
 
 // The structure at c is erased.
@@ -68,14 +61,13 @@ pub(crate) fn erase(
     log: &mut [u64],
     order: &mut Order,
     marks: &mut Marks,
-    go: u32,
     top: u16,
     c: u16,
-) -> u32
+) -> Result<(), Refusal>
     requires { Clean cells.old order.old marks.old × Suits log.old (length cells.old) top }
-    ensures did { Did (Top top) (length cells.old) (erase c) cells log go result tt }
+    ensures did { Did (Top top) (length cells.old) (erase c) cells log result }
     ensures clean { Clean cells.new order.new marks.new }
 {
-    let w = walks::walk(cells, order, marks, go, c);
-    erase_back(cells, log, order, w.n, w.go, top)
+    let n = walks::walk(cells, order, marks, c)?;
+    erase_back(cells, log, order, n, top)
 }

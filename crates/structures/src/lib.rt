@@ -3,8 +3,9 @@
 #![tactic(auto)]
 
 ghost use Rattle.std.specs.Prelude.{◌+◌, ◌≤◌, length};
-ghost use Rattle.paper.specs.Process.{J71, J72, J74, perform, then as and_then, goes_on};
+ghost use Rattle.paper.specs.Process.{J71, J72, J74, perform};
 ghost use Rattle.undo.specs.Did.{Top, Suits, Did};
+ghost use Rattle.acts.specs.GoesOn.{going_on};
 ghost use Rattle.structures.specs.Walks.{Clean};
 
 mod chains;
@@ -13,7 +14,7 @@ mod frees;
 mod scratch;
 mod walks;
 
-use paper::limits;
+use paper::{Refusal, limits};
 pub use walks::walk;
 
 // A cell is named by a number of 16 bits, and there is a mark for each.
@@ -24,32 +25,24 @@ pub type Order = [u16; limits::LARGEST_N];
 
 pub type Marks = [u16; MANY_NUMBERS];
 
-// The verdict, and how many cells of the order were met.
-#[derive(Clone, Copy)]
-pub struct Walked {
-    pub go: u32,
-    pub n: usize,
-}
-
 // J71 to J74, of which those named are listed.
 pub fn on_structures(
     cells: &mut [u64],
     log: &mut [u64],
     order: &mut Order,
     marks: &mut Marks,
-    go: u32,
     top: u16,
     j: u16,
-) -> u32
+) -> Result<(), Refusal>
     requires { Clean cells.old order.old marks.old × Suits log.old (length cells.old + 3) top × (71 ≤ j) × (j ≤ 74) }
-    ensures did { Did (Top top) (length cells.old + 3) (perform j) cells log go result (and_then goes_on) }
+    ensures did { Did (Top top) (length cells.old + 3) (perform j) cells log (going_on result) }
     ensures clean { Clean cells.new order.new marks.new }
 {
     match j {
-        71 => j71(cells, log, order, marks, go, top),
-        72 => j72(cells, log, order, marks, go, top),
-        74 => j74(cells, log, order, marks, go, top),
-        _ => undo::refuse_if(go, true, 28, limits::J0 + j),
+        71 => j71(cells, log, order, marks, top),
+        72 => j72(cells, log, order, marks, top),
+        74 => j74(cells, log, order, marks, top),
+        _ => Err(Refusal::NotListed(limits::J0 + j)),
     }
 }
 
@@ -59,17 +52,16 @@ fn j71(
     log: &mut [u64],
     order: &mut Order,
     marks: &mut Marks,
-    go: u32,
     top: u16,
-) -> u32
+) -> Result<(), Refusal>
     requires { Clean cells.old order.old marks.old × Suits log.old (length cells.old + 1) top }
-    ensures did { Did (Top top) (length cells.old + 1) J71 cells log go result tt }
+    ensures did { Did (Top top) (length cells.old + 1) J71 cells log result }
     ensures clean { Clean cells.new order.new marks.new }
 {
     let w0 = acts::own(cells, limits::H0);
-    let l = chains::chain(cells, order, marks, go, (w0 / cells::SYMB % 65536) as u16);
-    let go = frees::erase_back(cells, log, order, l.n, l.go, top);
-    acts::pop(cells, log, go, top)
+    let n = chains::chain(cells, order, marks, (w0 / cells::SYMB % 65536) as u16)?;
+    frees::erase_back(cells, log, order, n, top)?;
+    acts::pop(cells, log, top)
 }
 
 // "J72 frees the walk in reverse order, then pops."
@@ -78,24 +70,22 @@ pub fn j72(
     log: &mut [u64],
     order: &mut Order,
     marks: &mut Marks,
-    go: u32,
     top: u16,
-) -> u32
+) -> Result<(), Refusal>
     requires { Clean cells.old order.old marks.old × Suits log.old (length cells.old + 1) top }
-    ensures did { Did (Top top) (length cells.old + 1) J72 cells log go result tt }
+    ensures did { Did (Top top) (length cells.old + 1) J72 cells log result }
     ensures clean { Clean cells.new order.new marks.new }
 {
     let w0 = acts::own(cells, limits::H0);
-    let go = frees::erase(
+    frees::erase(
         cells,
         log,
         order,
         marks,
-        go,
         top,
         (w0 / cells::SYMB % 65536) as u16,
-    );
-    acts::pop(cells, log, go, top)
+    )?;
+    acts::pop(cells, log, top)
 }
 
 // The copy's name takes the place of (0).
@@ -104,21 +94,13 @@ pub fn j74(
     log: &mut [u64],
     order: &mut Order,
     marks: &mut Marks,
-    go: u32,
     top: u16,
-) -> u32
+) -> Result<(), Refusal>
     requires { Clean cells.old order.old marks.old × Suits log.old (length cells.old + 3) top }
-    ensures did { Did (Top top) (length cells.old + 3) J74 cells log go result tt }
+    ensures did { Did (Top top) (length cells.old + 3) J74 cells log result }
     ensures clean { Clean cells.new order.new marks.new }
 {
     let w0 = acts::own(cells, limits::H0);
-    let t = copies::copy(
-        cells,
-        log,
-        order,
-        marks,
-        go,
-        (w0 / cells::SYMB % 65536) as u16,
-    );
-    acts::gives1(cells, log, t.go, top, acts::copy_name(w0, t.c))
+    let c = copies::copy(cells, log, order, marks, (w0 / cells::SYMB % 65536) as u16)?;
+    acts::gives1(cells, log, top, acts::copy_name(w0, c))
 }

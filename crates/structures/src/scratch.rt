@@ -27,9 +27,7 @@ pub(crate) fn clear(order: &Order, marks: &mut Marks, n: usize)
     requires { Clears order.now marks.old n }
     ensures { marks.new ≡ blank }
 {
-    let mut k = n;
-    while 0 < k {
-        k -= 1;
-        marks[order[k] as usize] = 0;
+    for c in &order[..n] {
+        marks[*c as usize] = 0;
     }
 }

@@ -7,9 +7,8 @@ ghost use Rattle.cells.specs.Layout.{unpack_of};
 ghost use Rattle.structures.specs.Marks.{back, many_numbers};
 ghost use Rattle.structures.specs.Walks.{Clean, Holds, Fine, Arrives, Visits, Ends, list_of, sublist, Lists};
 
-use crate::{Marks, Order, Walked, scratch};
-use acts::Got;
-use paper::{Symbol, limits};
+use crate::{Marks, Order, scratch};
+use paper::{Refusal, Symbol, limits};
 
 // Whether the cell c, which holds x, may come next: three looks where a LINK led to it.
 fn fine(marks: &Marks, linked: bool, depth: usize, c: u16, x: u64) -> bool
@@ -46,26 +45,26 @@ fn too_deep(linked: bool, depth: usize) -> bool
 }
 
 // Why a cell may not come next: its checks in order.
-fn refused(cells: &[u64], marks: &Marks, linked: bool, depth: usize, c: u16) -> Got
+fn refused(cells: &[u64], marks: &Marks, linked: bool, depth: usize, c: u16) -> Result<u64, Refusal>
     requires { length marks.now ≡ many_numbers }
-    ensures { Arrives cells.now marks.now linked depth c result.go result.x }
+    ensures { Arrives cells.now marks.now linked depth c result }
 {
-    let t = acts::touch(cells, 0, c);
-    let go = undo::refuse_if(t.go, acts::reserved(limits::FIRST_DECK, c), 31, c);
-    let go = undo::refuse_if(go, not_word(linked, t.x), 23, c);
-    let go = undo::refuse_if(go, scratch::mark_at(marks, c) != 0, 31, c);
-    let go = undo::refuse_if(go, too_deep(linked, depth), 31, c);
-    Got { go: go, x: t.x }
+    let x = acts::touch(cells, c)?;
+    undo::refuse_if(acts::reserved(limits::FIRST_DECK, c), Refusal::BadWalk(c))?;
+    undo::refuse_if(not_word(linked, x), Refusal::WrongKind(c))?;
+    undo::refuse_if(scratch::mark_at(marks, c) != 0, Refusal::BadWalk(c))?;
+    undo::refuse_if(too_deep(linked, depth), Refusal::BadWalk(c))?;
+    Ok(x)
 }
 
 // The cell that comes next, reached by a LINK or as the head of a list at a depth.
-fn arrive(cells: &[u64], marks: &Marks, linked: bool, depth: usize, c: u16) -> Got
+fn arrive(cells: &[u64], marks: &Marks, linked: bool, depth: usize, c: u16) -> Result<u64, Refusal>
     requires { length marks.now ≡ many_numbers }
-    ensures { Arrives cells.now marks.now linked depth c result.go result.x }
+    ensures { Arrives cells.now marks.now linked depth c result }
 {
     let x = cells::peek(cells, c);
     if fine(marks, linked, depth, c, x) {
-        return Got { go: 0, x: x };
+        return Ok(x);
     }
     refused(cells, marks, linked, depth, c)
 }
@@ -79,7 +78,7 @@ fn walk_links(
     head: u16,
     depth: usize,
     from: usize,
-) -> Walked
+) -> Result<usize, Refusal>
     requires { Holds cells.now order.old marks.old from × (depth ≤ deepest + 1) }
     ensures { Ends (λ f. Visits (enter f depth head) cells.now (back from order.old))
         cells.now marks.old order.new marks.new result }
@@ -88,21 +87,19 @@ fn walk_links(
     let mut n = from;
     let mut linked = false;
     loop {
-        let m = arrive(cells, marks, linked, depth, c);
-        if m.go != 0 {
-            scratch::clear(order, marks, n);
-            return Walked { go: m.go, n: 0 };
-        }
-        let w = cells::word_in(m.x);
+        let x = match arrive(cells, marks, linked, depth, c) {
+            Ok(x) => x,
+            Err(e) => {
+                scratch::clear(order, marks, n);
+                return Err(e);
+            }
+        };
+        let w = cells::word_in(x);
         scratch::enlist(order, marks, n, c);
-        let inner = enter_sublist(cells, order, marks, w, depth, n + 1);
-        if inner.go != 0 {
-            return inner;
-        }
-        n = inner.n;
+        n = enter_sublist(cells, order, marks, w, depth, n + 1)?;
         c = (w % 65536) as u16;
         if c == 0 {
-            return inner;
+            return Ok(n);
         }
         linked = true;
     }
@@ -117,30 +114,27 @@ fn enter_sublist(
     w: u64,
     depth: usize,
     from: usize,
-) -> Walked
+) -> Result<usize, Refusal>
     requires { Holds cells.now order.old marks.old from × (depth ≤ deepest) }
     ensures { Ends (λ f. Visits (sublist depth (list_of w) f) cells.now (back from order.old))
         cells.now marks.old order.new marks.new result }
 {
     if (w / cells::Q % 256) as u8 != Symbol::LOCAL {
-        return Walked { go: 0, n: from };
+        return Ok(from);
     }
     let head = (w / cells::SYMB % 65536) as u16;
     if head == 0 {
-        return Walked { go: 0, n: from };
+        return Ok(from);
     }
     walk_links(cells, order, marks, head, depth + 1, from)
 }
 
 // The walk of the structure at c.
-pub fn walk(cells: &[u64], order: &mut Order, marks: &mut Marks, go: u32, c: u16) -> Walked
+pub fn walk(cells: &[u64], order: &mut Order, marks: &mut Marks, c: u16) -> Result<usize, Refusal>
     requires { Clean cells.now order.old marks.old }
-    ensures { Lists (walk_back c) cells.now go order.new marks.new result }
+    ensures { Lists (walk_back c) cells.now order.new marks.new result }
 {
-    if go != 0 {
-        return Walked { go: go, n: 0 };
-    }
-    let w = walk_links(cells, order, marks, c, 1, 0);
-    scratch::clear(order, marks, w.n);
-    w
+    let met = walk_links(cells, order, marks, c, 1, 0)?;
+    scratch::clear(order, marks, met);
+    Ok(met)
 }

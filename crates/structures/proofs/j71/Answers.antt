@@ -1,16 +1,25 @@
 use Rattle.paper.proofs.Kit.{arith}
 use Rattle.paper.specs.Process.{J71}
-use Rattle.steps.proofs.Sequence.{then, any, any-sees, most}
-use Rattle.undo.proofs.Lines.{looks, reads}
-use Rattle.structures.proofs.Whole.{lists-clean}
+use Rattle.steps.proofs.Sequence.{then, then_err, any, any-sees, most, same_err}
+use Rattle.undo.proofs.Lines.{looks, reads, reads_err}
 use Rattle.structures.proofs.j71.Goals as goal
 
-pub returns : goal.returns
+pub returns-in_err-n-clause-did : goal.returns-in_err-n-clause-did
 unfolding J71
-returns c =
-    let p = c.pop in
-    let w = c.chain-l.ensures in record {
-      did = looks _ (any-sees c.own-w0.ensures)
-          (reads _ (any w.says) (most _ (omega (arith, w.few)) (then c.erase_back-go.ensures p.ensures)));
-      clean = lists-clean c.requires.0 (omega (arith, p.auto.cells, c.erase_back-go.auto.cells)) w;
-    }
+returns-in_err-n-clause-did c =
+    let w = c.in_err-n.ensures in
+    rw (same_err c.from_residual.ensures.1) (looks _ (any-sees c.own-w0.ensures) (reads_err _ (any w.says)))
+
+pub returns-in_err-erase_back-clause-did : goal.returns-in_err-erase_back-clause-did
+unfolding J71
+returns-in_err-erase_back-clause-did c =
+    let w = c.in_ok-n.ensures in
+    rw (same_err c.from_residual-in_err-erase_back.ensures.1)
+    (looks _ (any-sees c.own-w0.ensures) (reads _ (any w.says) (most _ (omega (arith, w.listed.0)) (then_err _ c.in_err-erase_back.ensures))))
+
+pub returns-clause-did : goal.returns-clause-did
+unfolding J71
+returns-clause-did c =
+    let w = c.in_ok-n.ensures in
+    looks _ (any-sees c.own-w0.ensures)
+    (reads _ (any w.says) (most _ (omega (arith, w.listed.0)) (then c.in_ok-erase_back.ensures c.pop.ensures)))

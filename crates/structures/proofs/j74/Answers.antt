@@ -1,15 +1,18 @@
 use Rattle.paper.proofs.Kit.{ap, arith}
 use Rattle.paper.specs.Act.{gives}
 use Rattle.paper.specs.Process.{J74}
-use Rattle.steps.proofs.Sequence.{bind, any, any-sees, alike, most}
+use Rattle.steps.proofs.Sequence.{bind, bind_err, any, any-sees, alike, most, same_err}
 use Rattle.undo.proofs.Lines.{looks}
-use Rattle.structures.proofs.Whole.{clean-as}
 use Rattle.structures.proofs.j74.Goals as goal
 
-pub returns : goal.returns
+pub returns-in_err-c-clause-did : goal.returns-in_err-c-clause-did
 unfolding J74
-returns c =
-    let t = c.copy-t.ensures in record {
-      did = most _ (omega arith) (looks _ (any-sees c.own-w0.ensures) (bind _ (any t.did) (alike (ap (gives 1) c.copy_name.ensures) c.gives1.ensures)));
-      clean = clean-as c.gives1.auto.cells t.clean;
-    }
+returns-in_err-c-clause-did c =
+    let t = c.in_err-c.ensures in
+    rw (same_err c.from_residual.ensures.1) (looks _ (any-sees c.own-w0.ensures) (most _ (omega arith) (bind_err _ (any t.did))))
+
+pub returns-clause-did : goal.returns-clause-did
+unfolding J74
+returns-clause-did c =
+    let t = c.in_ok-c.ensures in
+    most _ (omega arith) (looks _ (any-sees c.own-w0.ensures) (bind _ (any t.did) (alike (ap (gives 1) c.copy_name.ensures) c.gives1.ensures)))

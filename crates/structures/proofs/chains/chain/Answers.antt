@@ -1,40 +1,35 @@
 use Rattle.paper.proofs.Kit.{sym, ◌∙◌, arith}
-use Rattle.structures.proofs.Holding.{clean-holds, clean-turns, holds_more, seen_more, ordered-none, ends-clears, ends-lists}
+use Rattle.steps.proofs.Sequence.{same_err}
+use Rattle.structures.proofs.Holding.{clean-holds, clean-turns, holds_more, seen_more, ends-lists, ends-err}
 use Rattle.structures.proofs.Turn.{chain-not, chain-new, chain-one, chain-long}
 use Rattle.structures.proofs.chains.chain.Goals as goal
 
-pub returns-then-t-ne0 : goal.returns-then-t-ne0
-returns-then-t-ne0 c =
+pub returns-in_err-x : goal.returns-in_err-x
+returns-in_err-x c =
     let l = c.requires in
-    record {
-      says = chain-not _ c.touch-t.ensures (omega arith);
-      few = omega arith;
-      ordered = ordered-none l.sized;
-      unmarked = l.unmarked;
-    }
+    rw (same_err c.from_residual.ensures.1) (record { says = chain-not _ c.in_err-x.ensures; listed = l.sized; unmarked = l.unmarked })
 
 pub returns-then-is_term : goal.returns-then-is_term
 returns-then-is_term c =
     let l = c.requires in
-    let m = c.touch-t.ensures in
-    let p = c.if-t-ne0.false in
-    let w = chain-new _ m p c.args.order.now in
+    let m = c.in_ok-x.ensures in
+    let w = chain-new _ m c.args.order.now in
     record {
-      says = chain-one _ m p (sym c.is_term.ensures ∙ c.if-is_term.true) (sym (seen_more (clean-holds l) _ w));
-      few = omega (arith, w.used.inside);
-      ordered = (holds_more (clean-holds l) _ w).ordered;
+      says = chain-one _ m (sym c.is_term.ensures ∙ c.if-is_term.true) (sym (seen_more (clean-holds l) _ w));
+      listed = (omega (arith, w.used.inside), (holds_more (clean-holds l) _ w).ordered);
       unmarked = l.unmarked;
     }
 
-pub chain_links-w-requires : goal.chain_links-w-requires
-chain_links-w-requires c = clean-holds c.requires
+pub chain_links-requires : goal.chain_links-requires
+chain_links-requires c = clean-holds c.requires
 
-pub clear-requires : goal.clear-requires
-clear-requires c = ends-clears c.chain_links-w.ensures
+pub returns-in_err-met : goal.returns-in_err-met
+returns-in_err-met c =
+    let e = c.in_err-met.ensures in
+    rw (same_err c.from_residual-in_err-met.ensures.1)
+    (ends-err e (chain-long _ c.in_ok-x.ensures (sym c.is_term.ensures ∙ c.if-is_term.false) (e.says _ (clean-turns c.requires))))
 
 pub returns : goal.returns
 returns c =
-    let e = c.chain_links-w.ensures in
-    ends-lists e c.clear.ensures
-    (chain-long _ c.touch-t.ensures c.if-t-ne0.false (sym c.is_term.ensures ∙ c.if-is_term.false)
-    (e.says _ (clean-turns c.requires)))
+    let e = c.in_ok-met.ensures in
+    ends-lists e c.clear.ensures (chain-long _ c.in_ok-x.ensures (sym c.is_term.ensures ∙ c.if-is_term.false) (e.says _ (clean-turns c.requires)))

@@ -7,12 +7,12 @@ use Rattle.structures.proofs.Leads.{Leads}
 use Rattle.structures.proofs.chains.chain_links.Given as goal
 
 -- The chain: words along the LINKs. The cells without marks fall.
-abbrev pub invariant-loop-order : goal.invariant-loop-order
-invariant-loop-order l = let z₀ = unmet (length l.cells) l.initial.marks in
+abbrev pub invariant-loop-w : goal.invariant-loop-w
+invariant-loop-w l = let z₀ = unmet (length l.cells) l.initial.marks in
     let z = unmet (length l.cells) l.marks in
     Holds l.cells l.order l.marks l.n
     × (z ≤ z₀)
-    × Leads (λ f. Gets Always (chain f l.head []) l.cells 0) z₀ (λ f. Gets Always (chain f l.c (back l.n l.order)) l.cells 0) z
+    × Leads (λ f. Gets Always (chain f l.head []) l.cells) z₀ (λ f. Gets Always (chain f l.c (back l.n l.order)) l.cells) z
 
-abbrev pub decreases-loop-order : goal.decreases-loop-order
-decreases-loop-order l = unmet (length l.cells) l.marks
+abbrev pub decreases-loop-w : goal.decreases-loop-w
+decreases-loop-w l = unmet (length l.cells) l.marks

@@ -1,29 +1,21 @@
-use Rattle.paper.proofs.Kit.{arith}
-use Rattle.structures.proofs.Whole.{lists-begins, copied-whole}
+use Rattle.paper.specs.Walk.{copy}
+use Rattle.steps.proofs.Sequence.{same_err}
+use Rattle.undo.proofs.Lines.{reads_err}
+use Rattle.structures.proofs.Whole.{copied-whole, not-copied}
 use Rattle.structures.proofs.copies.copy.Goals as goal
 
-pub prepare-go-requires : goal.prepare-go-requires
-prepare-go-requires c =
-    let w = c.walk-w.ensures in
-    let p = c.requires in
-    (w.ordered, lists-begins p.0.small w, record { fits = omega (arith, w.few, p.1.fits) }, w.few)
+pub returns-in_err-n-clause-did : goal.returns-in_err-n-clause-did
+unfolding copy
+returns-in_err-n-clause-did c = let w = c.in_err-n.ensures in rw (same_err c.from_residual.ensures.1) (reads_err _ w.says)
 
-pub copy_all-requires : goal.copy_all-requires
-copy_all-requires c =
-    let t = c.prepare-go in
-    let p = c.requires in
-    (t.ensures.clears, record { fits = omega (arith, t.ensures.prepares.count, t.ensures.prepares.fits, t.auto.log, p.1.fits) })
+pub returns-in_err-prepare-clause-did : goal.returns-in_err-prepare-clause-did
+returns-in_err-prepare-clause-did c =
+    let w = c.in_ok-n.ensures in
+    let t = c.in_err-prepare.ensures in
+    rw (same_err c.from_residual-in_err-prepare.ensures.1) (not-copied _ _ _ w.says (t.prepares _))
 
-pub returns : goal.returns
-returns c =
-    let p = c.requires in
-    let t = c.prepare-go.ensures in
-    let w = c.walk-w.ensures in record {
-      did = copied-whole _ _ _ _ w.says t.prepares c.copy_all.ensures c.mark_at-name.ensures;
-      clean = record {
-        large = omega (arith, c.copy_all.auto.cells, c.prepare-go.auto.cells, p.0.large);
-        small = omega (arith, c.copy_all.auto.cells, c.prepare-go.auto.cells, p.0.small);
-        sized = w.ordered.sized;
-        unmarked = c.clear.ensures;
-      };
-    }
+pub returns-clause-did : goal.returns-clause-did
+returns-clause-did c =
+    let t = c.in_ok-prepare.ensures in
+    let w = c.in_ok-n.ensures in
+    copied-whole _ _ _ w.says _ t.prepares c.copy_all.ensures c.mark_at-name.ensures

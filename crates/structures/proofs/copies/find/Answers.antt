@@ -16,9 +16,9 @@ use Rattle.structures.proofs.copies.find.Goals as goal
 
 -- it ends with what is noted so far
 ends : {s order unmarked marks : List ℕ} {n i next : ℕ} (h : ℕ) → Begins order unmarked n → steps.Sees reading Always (own 3) s (word_of h)
-    → (i ≤ n) × (length marks ≡ many_numbers) × Only marks (back i order) × Run (unpacked s) (h % 65536) (news_of marks order i) next
+    → i ≤ n → (length marks ≡ many_numbers) × Only marks (back i order) × Run (unpacked s) (h % 65536) (news_of marks order i) next
     → Finds s order marks n (record { n = i; next = next })
-ends {s} {order} {marks = marks} {i = i} {next = next} h q o (few, wide, only, run) = record {
+ends {s} {order} {marks = marks} {i = i} {next = next} h q o few (wide, only, run) = record {
   few = few;
   clears = record { few = omega (arith, q.few); sized = q.sized; wide = wide; inside = λ k l. q.inside k (omega arith); only = only };
   run = subst (λ (w : Word). Run (unpacked s) w.link (news_of marks order i) next) (sym (owned_by _ _ o)) run;
@@ -27,41 +27,32 @@ ends {s} {order} {marks = marks} {i = i} {next = next} h q o (few, wide, only, r
 pub loop-i-init : goal.loop-i-init
 loop-i-init c =
     let m = c.requires.unmarked in
-    (omega arith, blank-wide m, only-blank m, refl)
-
-pub returns-then-not-is_free : goal.returns-then-not-is_free
-returns-then-not-is_free c = ends c.own-h.result c.requires c.own-h.ensures c.loop-i.invariant
+    (blank-wide m, only-blank m, refl)
 
 pub returns-then-next-eq0 : goal.returns-then-next-eq0
-returns-then-next-eq0 c = ends c.own-h.result c.requires c.own-h.ensures c.loop-i.invariant
-
-pub overflow_cast-marks : goal.overflow_cast-marks
-overflow_cast-marks c = omega (arith, c.requires.inside c.loop-i.i (omega arith))
-
-pub offset_bounds-marks-order : goal.offset_bounds-marks-order
-offset_bounds-marks-order c = omega (arith, c.requires.inside c.loop-i.i (omega arith))
-
-pub bounds-marks-order : goal.bounds-marks-order
-bounds-marks-order c = omega (arith, c.requires.inside c.loop-i.i (omega arith))
+returns-then-next-eq0 c = ends c.own-h.result c.requires c.own-h.ensures (omega arith) c.loop-i.invariant
 
 pub loop-i-preserved : goal.loop-i-preserved
 loop-i-preserved c =
     let l = c.loop-i in
     let q = c.requires in
     let w : c.args.n ≤ length c.args.order.now = omega (arith, q.few, q.sized) in
-    let i = c.requires.inside c.loop-i.i (omega arith) in
+    let i = q.inside l.i (omega arith) in
     let o = once-at c.args.order.now _ _ w c.loop-i-test.true q.once in
     let s = c.args.cells.now in
     let x = c.own-h.result % 65536 in
-    let e = news-more l.marks c.args.order.now l.i l.next (omega arith) (omega (arith, l.invariant.1)) o in (
-      omega arith,
-      simp length-set l.invariant.1,
-      subst (Only _) (sym (back_more c.args.order.now l.i (omega arith))) (only-more _ _ l.invariant.2),
+    let e = news-more l.marks c.args.order.now l.i l.next (omega arith) (omega (arith, l.invariant.0)) o in (
+      simp length-set l.invariant.0,
+      subst (Only _) (sym (back_more c.args.order.now l.i (omega arith))) (only-more _ _ l.invariant.1),
       subst (λ ns. Run (unpacked s) x ns c.free_link-next.result) (sym e)
-          (run-found s (news_of l.marks c.args.order.now l.i) x l.next c.peek-x.result l.invariant.3
+          (run-found s (news_of l.marks c.args.order.now l.i) x l.next c.peek-x.result l.invariant.2
           c.if-next-eq0.false c.peek-x.ensures (sym c.is_free.ensures ∙ c.if-not-is_free.false)
           c.free_link-next.ensures),
     )
 
 pub returns : goal.returns
-returns c = ends c.own-h.result c.requires c.own-h.ensures c.loop-i.invariant
+returns c =
+    let l = c.loop-i in
+    let e : l.i ≡ c.args.n = omega arith in
+    subst (λ i. Finds c.args.cells.now c.args.order.now l.marks c.args.n (record { n = i; next = l.next })) e
+    (ends c.own-h.result c.requires c.own-h.ensures (omega arith) l.invariant)

@@ -1,14 +1,12 @@
 use Rattle.paper.specs.Walk.{erase}
-use Rattle.steps.proofs.Sequence.{any, most}
-use Rattle.undo.proofs.Lines.{reads}
-use Rattle.structures.proofs.Whole.{lists-clean}
+use Rattle.steps.proofs.Sequence.{any, most, same_err}
+use Rattle.undo.proofs.Lines.{reads, reads_err}
 use Rattle.structures.proofs.frees.erase.Goals as goal
 
-pub returns : goal.returns
+pub returns-in_err-n-clause-did : goal.returns-in_err-n-clause-did
 unfolding erase
-returns c =
-    let e = c.erase_back in
-    let w = c.walk-w.ensures in record {
-      did = reads _ (any w.says) (most _ w.few e.ensures);
-      clean = lists-clean c.requires.0 e.auto.cells w;
-    }
+returns-in_err-n-clause-did c = let w = c.in_err-n.ensures in rw (same_err c.from_residual.ensures.1) (reads_err _ (any w.says))
+
+pub returns-clause-did : goal.returns-clause-did
+unfolding erase
+returns-clause-did c = let w = c.in_ok-n.ensures in reads _ (any w.says) (most _ w.listed.0 c.erase_back.ensures)

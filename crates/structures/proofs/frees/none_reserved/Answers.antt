@@ -1,19 +1,21 @@
-use Rattle.paper.proofs.Kit.{◌≤◌, arith, length}
+use Rattle.paper.proofs.Kit.{arith, take, length-take-le}
+use Rattle.steps.proofs.Sequence.{same_err}
 use Rattle.undo.proofs.Leaves.{reserving}
-use Rattle.structures.proofs.Loops.{free_more, free-end}
+use Rattle.structures.proofs.Loops.{free_more, free-err, free-end}
 use Rattle.structures.proofs.frees.none_reserved.Goals as goal
 
-pub loop-i-init : goal.loop-i-init
-loop-i-init c = (omega arith, λ s r d. d)
+pub loop-c-preserved : goal.loop-c-preserved
+loop-c-preserved c =
+    let e = length-take-le c.args.n c.args.order.now (omega arith) in
+    free_more _ _ _ c.loop-c.invariant (omega arith) (λ s. reserving s _ _ c.reserved.ensures) c.in_ok-refuse_if.ensures
 
-pub loop-i-preserved : goal.loop-i-preserved
-loop-i-preserved c =
-    let l = c.loop-i in
-    let w : c.args.n ≤ length c.args.order.now = omega arith in
-    let r = c.reserved.ensures in
-    (omega arith, free_more _ _ _ _ l.invariant.1 w c.loop-i-test.true (λ s. reserving s _ _ r) c.refuse_if-go.ensures)
+pub returns-in_err-refuse_if : goal.returns-in_err-refuse_if
+returns-in_err-refuse_if c =
+    let e = length-take-le c.args.n c.args.order.now (omega arith) in
+    rw (same_err c.from_residual.ensures.1)
+    (free-err _ _ _ c.loop-c.invariant (omega arith) (λ s. reserving s _ _ c.reserved.ensures) c.in_err-refuse_if.ensures)
 
 pub returns : goal.returns
 returns c =
-    let w : c.args.n ≤ length c.args.order.now = omega arith in
-    free-end _ _ _ _ c.loop-i.invariant.1 w c.loop-i-test.false
+    let e = length-take-le c.args.n c.args.order.now (omega arith) in
+    free-end c.args.top (take c.args.n c.args.order.now) c.loop-c.c-index c.loop-c.invariant (omega arith)

@@ -1,13 +1,6 @@
-use Rattle.paper.proofs.Kit.{◌%◌, ◌≤◌, ◌≡◌, length}
-use Rattle.undo.specs.Verdict.{told}
+use Rattle.paper.proofs.Kit.{◌%◌}
 use Rattle.structures.proofs.Loops.{Releases}
 use Rattle.structures.proofs.frees.release_all.Given as goal
 
-abbrev pub invariant-loop-left : goal.invariant-loop-left
-invariant-loop-left l = (l.left ≤ l.n)
-    × (length l.cells ≡ length l.initial.cells)
-    × (length l.log ≡ length l.initial.log)
-    × Releases l.order l.n l.left (l.h % 65536) (l.initial.cells, l.initial.log) (told l.go) l.l (l.cells, l.log)
-
-abbrev pub decreases-loop-left : goal.decreases-loop-left
-decreases-loop-left l = l.left
+abbrev pub invariant-loop-i : goal.invariant-loop-i
+invariant-loop-i l = Releases l.order l.n l.i (l.h % 65536) (l.initial.cells, l.initial.log) l.l (l.cells, l.log)

@@ -1,29 +1,27 @@
-use Rattle.paper.proofs.Kit.{◌-◌, ◌≡◌, subst, arith, length-set}
-use Rattle.structures.specs.Marks.{back, Only}
-use Rattle.structures.proofs.Marks.{back-less, only-less, only_none}
+use Rattle.paper.proofs.Kit.{◌<◌, subst, arith, length-set, take, get_or-take, length-take-le, drop_of_length-le}
+use Rattle.structures.specs.Marks.{Only}
+use Rattle.structures.proofs.Marks.{only-less, only_none}
+use Rattle.structures.proofs.Lists.{drop-at, only_back}
 use Rattle.structures.proofs.scratch.clear.Goals as goal
 
-pub loop-k-init : goal.loop-k-init
-loop-k-init c = (omega arith, c.requires.wide, c.requires.only)
+pub loop-c-init : goal.loop-c-init
+loop-c-init c = (c.requires.wide, only_back _ c.requires.only)
 
-pub overflow_cast-marks : goal.overflow_cast-marks
-overflow_cast-marks c = omega (arith, c.requires.inside (c.loop-k.k - 1) (omega arith))
-
-pub offset_bounds-marks-order : goal.offset_bounds-marks-order
-offset_bounds-marks-order c = omega (arith, c.requires.inside (c.loop-k.k - 1) (omega arith))
-
-pub bounds-marks-order : goal.bounds-marks-order
-bounds-marks-order c = omega (arith, c.requires.inside (c.loop-k.k - 1) (omega arith))
-
-pub loop-k-preserved : goal.loop-k-preserved
-loop-k-preserved c =
-    let l = c.loop-k in
+pub loop-c-preserved : goal.loop-c-preserved
+loop-c-preserved c =
+    let l = c.loop-c in
     let p = c.requires in
-    let o = subst (λ s. Only l.marks s) (back-less _ l.k (omega arith) (omega (arith, p.few, p.sized))) l.invariant.2 in
-    (omega arith, simp length-set l.invariant.1, only-less _ (omega (arith, c.requires.inside (c.loop-k.k - 1) (omega arith))) o)
+    let order = c.args.order.now in
+    let cs = take c.args.n order in
+    let e = length-take-le c.args.n order (omega (arith, p.few, p.sized)) in
+    let h : l.c-index < c.args.n = omega arith in
+    let o = subst (λ s. Only l.marks s) (drop-at cs l.c-index (omega arith)) l.invariant.1 in
+    (simp length-set l.invariant.0, only-less _ (omega (arith, get_or-take c.args.n order l.c-index 0 h, p.inside l.c-index h, l.invariant.0)) o)
 
 pub returns : goal.returns
 returns c =
-    let l = c.loop-k in
-    let e : l.k ≡ 0 = omega arith in
-    only_none l.invariant.1 (subst (λ k. Only l.marks (back k c.args.order.now)) e l.invariant.2)
+    let l = c.loop-c in
+    let p = c.requires in
+    let cs = take c.args.n c.args.order.now in
+    let e = length-take-le c.args.n c.args.order.now (omega (arith, p.few, p.sized)) in
+    only_none l.invariant.0 (subst (λ s. Only l.marks s) (drop_of_length-le cs {i = l.c-index} (omega arith)) l.invariant.1)

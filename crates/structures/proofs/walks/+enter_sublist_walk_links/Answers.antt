@@ -1,24 +1,25 @@
 use Rattle.paper.proofs.Kit.{ℕ, ◌<◌, ◌≤◌, ◌≡◌, refl, sym, ◌∙◌, Bool, true, false, true≢false, List, ◌∷◌, arith, length}
+use Rattle.std.specs.Prelude.{Result, Ok}
+use Rattle.paper.specs.declared.Refusal.{Refusal}
 use Rattle.paper.specs.Limits.{deepest}
 use Rattle.paper.specs.Cell.{Cell, word_in}
 use Rattle.paper.specs.Walk.{list_named}
 use Rattle.cells.specs.Layout.{unpack_of, word_of}
 use Rattle.cells.proofs.Laws.{link-in}
 use Rattle.undo.specs.Did.{Always}
-use Rattle.structures.specs.declared.Walked.{Walked}
+use Rattle.steps.proofs.Sequence.{same_err}
 use Rattle.structures.specs.Marks.{back, unmet}
-use Rattle.structures.specs.Walks.{Gets, Holds, Visits, Ends, Arrives, arrives, list_of, sublist}
-use Rattle.structures.proofs.Leads.{leads-none, leads-end, leads-more, known, verdict-is}
+use Rattle.structures.specs.Walks.{Gets, Holds, Visits, Ends, met_in, Arrives, arrives, list_of, sublist}
+use Rattle.structures.proofs.Leads.{leads-none, leads-end, leads-more, known}
 use Rattle.structures.proofs.Meeting.{New, s-arrives}
-use Rattle.structures.proofs.Holding.{fits, listed-held, listed-less, listed-more, ends-done, ends-refused, left-done, left-refused}
-use Rattle.structures.proofs.Turn.{list-in, list-none, list-is, visits-as, sublist-none, sublist-in, sublist-as, meet-refused, inner-refused, walk_end, walk-on}
+use Rattle.structures.proofs.Holding.{fits, listed-held, listed-less, listed-more}
+use Rattle.structures.proofs.Turn.{list-in, list-none, list-is, sublist-none, sublist-in, sublist-as, meet-refused, inner-refused, walk_end, walk-on}
 use Rattle.structures.proofs.walks.+enter_sublist_walk_links.Goals as goal
 
 -- a cell was met: it is new
-module _ {cells order marks : List ℕ} {n go : ℕ} (b : Bool) (depth c : ℕ) (x : ℕ) (h : Holds cells order marks n) (a : Arrives cells marks b depth c go x)
-    (p : go ≡ 0) where
-  met : Gets Always (arrives b depth c (back n order)) cells 0 0 (unpack_of x)
-  met = verdict-is p (a _ h.marked)
+module _ {cells order marks : List ℕ} {n : ℕ} (b : Bool) (depth c : ℕ) (x : ℕ) (h : Holds cells order marks n) (a : Arrives cells marks b depth c (Ok x)) where
+  met : Gets Always (arrives b depth c (back n order)) cells (Ok (unpack_of x))
+  met = a _ h.marked
 
   new : (b ≡ true → depth ≤ deepest) → New cells c (back n order) × (depth ≤ deepest)
   new f = let k = known _ _ _ _ _ (s-arrives _ _ _ _ _) met in (k.0, either b f k.1)
@@ -28,9 +29,9 @@ module _ {cells order marks : List ℕ} {n go : ℕ} (b : Bool) (depth c : ℕ) 
       either false f g = g refl
 
 -- and the list that it names was entered
-inner : {cells seen seen' marks order' marks' : List ℕ} {r : Walked} (depth w c : ℕ) (x : Cell) → word_in x ≡ word_of w → seen' ≡ c ∷ seen
+inner : {cells seen seen' marks order' marks' : List ℕ} {r : Result ℕ Refusal} (depth w c : ℕ) (x : Cell) → word_in x ≡ word_of w → seen' ≡ c ∷ seen
     → Ends (λ f. Visits (sublist depth (list_of w) f) cells seen') cells marks order' marks' r
-    → (k : ℕ) → unmet (length cells) marks < k → Visits (sublist depth (list_named x) k) cells (c ∷ seen) r.go (back r.n order')
+    → (k : ℕ) → unmet (length cells) marks < k → Visits (sublist depth (list_named x) k) cells (c ∷ seen) (met_in order' r)
 inner depth w c x p q e k h = sublist-as _ _ _ k (list-in x w p) q (e.says k h)
 
 pub enter_sublist-returns-then-w-ne-LOCAL : goal.enter_sublist-returns-then-w-ne-LOCAL
@@ -51,81 +52,77 @@ enter_sublist-returns t c =
       left = e.left;
     }
 
-pub walk_links-loop-order-init : goal.walk_links-loop-order-init
-walk_links-loop-order-init t c = (c.requires.0, omega arith, (λ e. absurd (true≢false (sym e))), leads-none _ _)
+pub walk_links-loop-x-init : goal.walk_links-loop-x-init
+walk_links-loop-x-init t c = (c.requires.0, omega arith, (λ e. absurd (true≢false (sym e))), leads-none _ _)
 
-pub walk_links-returns-then-m-ne0 : goal.walk_links-returns-then-m-ne0
-walk_links-returns-then-m-ne0 t c =
-    let l = c.loop-order in
-    let p : 0 < c.arrive-m.result.go = omega arith in
+pub walk_links-returns-in-Err : goal.walk_links-returns-in-Err
+walk_links-returns-in-Err t c =
+    let l = c.loop-x in
     record {
-      says = leads-end l.invariant.3 _ _ (λ k h. meet-refused _ _ _ _ k p (c.arrive-m.ensures _ l.invariant.0.marked));
-      left = left-refused _ _ _ _ _ p (l.invariant.0.ordered.sized, c.clear.ensures, refl);
+      says = leads-end l.invariant.3 _ (λ k h. meet-refused _ _ _ _ k (c.in-Err.ensures _ l.invariant.0.marked));
+      left = (l.invariant.0.ordered.sized, c.clear.ensures);
     }
 
 pub walk_links-enlist-requires : goal.walk_links-enlist-requires
 walk_links-enlist-requires t c =
-    let i = c.loop-order.invariant in
-    let w = new _ _ _ _ i.0 c.arrive-m.ensures c.if-m-ne0.false i.2 in
+    let i = c.loop-x.invariant in
+    let w = new _ _ _ _ i.0 c.in-Ok.ensures i.2 in
     (fits i.0 _ w.0, i.0.wide)
 
-pub walk_links-enter_sublist-inner-requires : goal.walk_links-enter_sublist-inner-requires
-walk_links-enter_sublist-inner-requires t c =
-    let i = c.loop-order.invariant in
-    let w = new _ _ _ _ i.0 c.arrive-m.ensures c.if-m-ne0.false i.2 in
+pub walk_links-enter_sublist-requires : goal.walk_links-enter_sublist-requires
+walk_links-enter_sublist-requires t c =
+    let i = c.loop-x.invariant in
+    let w = new _ _ _ _ i.0 c.in-Ok.ensures i.2 in
     (omega arith, (listed-held i.0 w.0 c.enlist.ensures, w.1))
 
-pub walk_links-returns-then-inner-ne0 : goal.walk_links-returns-then-inner-ne0
-walk_links-returns-then-inner-ne0 t c =
-    let l = c.loop-order in
+pub walk_links-returns-in_err-n : goal.walk_links-returns-in_err-n
+walk_links-returns-in_err-n t c =
+    let l = c.loop-x in
     let i = l.invariant in
-    let w = new _ _ _ _ i.0 c.arrive-m.ensures c.if-m-ne0.false i.2 in
-    let x = unpack_of c.arrive-m.result.x in
+    let w = new _ _ _ _ i.0 c.in-Ok.ensures i.2 in
+    let x = unpack_of c.in-Ok.x in
     let f = listed-less i.0 w.0 c.enlist.ensures in
-    let p : 0 < c.enter_sublist-inner.result.go = omega arith in
-    record {
-      says = leads-end i.3 _ _
-          (λ k h. inner-refused _ _ _ _ k (met _ _ _ _ i.0 c.arrive-m.ensures c.if-m-ne0.false) p
-          (inner _ _ _ x c.word_in-w.ensures (listed-more i.0 w.0 c.enlist.ensures) c.enter_sublist-inner.ensures k (omega arith)));
-      left = left-refused _ _ _ _ _ p (ends-refused c.enter_sublist-inner.ensures p);
-    }
+    let e = c.in_err-n.ensures in
+    rw (same_err c.from_residual.ensures.1) (record {
+      says = leads-end i.3 _
+          (λ k h. inner-refused _ _ _ _ k (met _ _ _ _ i.0 c.in-Ok.ensures)
+          (inner _ _ _ x c.word_in-w.ensures (listed-more i.0 w.0 c.enlist.ensures) e k (omega arith)));
+      left = e.left;
+    })
 
 pub walk_links-returns-then-c-eq0 : goal.walk_links-returns-then-c-eq0
 walk_links-returns-then-c-eq0 t c =
-    let i = c.loop-order.invariant in
-    let w = new _ _ _ _ i.0 c.arrive-m.ensures c.if-m-ne0.false i.2 in
-    let x = unpack_of c.arrive-m.result.x in
+    let i = c.loop-x.invariant in
+    let w = new _ _ _ _ i.0 c.in-Ok.ensures i.2 in
+    let x = unpack_of c.in-Ok.x in
     let f = listed-less i.0 w.0 c.enlist.ensures in
-    let e = c.if-inner-ne0.false in
-    let d = ends-done c.enter_sublist-inner.ensures e in
+    let e = c.in_ok-n.ensures in
     record {
-      says = leads-end i.3 _ _
-          (λ k h. visits-as (sym e)
-          (walk_end _ _ _ _ k (met _ _ _ _ i.0 c.arrive-m.ensures c.if-m-ne0.false) (link-in x _ c.word_in-w.ensures)
-          (visits-as e (inner _ _ _ x c.word_in-w.ensures (listed-more i.0 w.0 c.enlist.ensures) c.enter_sublist-inner.ensures k (omega arith)))
-          c.if-c-eq0.true));
-      left = left-done _ _ _ _ _ e d.0 (omega (arith, d.1, i.1));
+      says = leads-end i.3 _
+          (λ k h. walk_end _ _ _ _ k (met _ _ _ _ i.0 c.in-Ok.ensures) (link-in x _ c.word_in-w.ensures)
+          (inner _ _ _ x c.word_in-w.ensures (listed-more i.0 w.0 c.enlist.ensures) e k (omega arith)) c.if-c-eq0.true);
+      left = (e.left.0, omega (arith, e.left.1, i.1));
     }
 
-pub walk_links-loop-order-smaller : goal.walk_links-loop-order-smaller
-walk_links-loop-order-smaller t c =
-    let i = c.loop-order.invariant in
-    let w = new _ _ _ _ i.0 c.arrive-m.ensures c.if-m-ne0.false i.2 in
-    omega (arith, (ends-done c.enter_sublist-inner.ensures c.if-inner-ne0.false).1, listed-less i.0 w.0 c.enlist.ensures)
+pub walk_links-loop-x-smaller : goal.walk_links-loop-x-smaller
+walk_links-loop-x-smaller t c =
+    let i = c.loop-x.invariant in
+    let w = new _ _ _ _ i.0 c.in-Ok.ensures i.2 in
+    let e = c.in_ok-n.ensures in
+    omega (arith, e.left.1, listed-less i.0 w.0 c.enlist.ensures)
 
-pub walk_links-loop-order-preserved : goal.walk_links-loop-order-preserved
-walk_links-loop-order-preserved t c =
-    let i = c.loop-order.invariant in
-    let w = new _ _ _ _ i.0 c.arrive-m.ensures c.if-m-ne0.false i.2 in
-    let x = unpack_of c.arrive-m.result.x in
+pub walk_links-loop-x-preserved : goal.walk_links-loop-x-preserved
+walk_links-loop-x-preserved t c =
+    let i = c.loop-x.invariant in
+    let w = new _ _ _ _ i.0 c.in-Ok.ensures i.2 in
+    let x = unpack_of c.in-Ok.x in
     let f = listed-less i.0 w.0 c.enlist.ensures in
-    let e = c.if-inner-ne0.false in
-    let d = ends-done c.enter_sublist-inner.ensures e in (
+    let e = c.in_ok-n.ensures in
+    let d = e.left in (
       d.0,
       omega (arith, d.1, i.1),
       (λ q. w.1),
       leads-more i.3 _ _ (omega (arith, d.1))
-          (λ k h r v g. walk-on _ _ _ _ k (met _ _ _ _ i.0 c.arrive-m.ensures c.if-m-ne0.false) (link-in x _ c.word_in-w.ensures)
-          (visits-as e (inner _ _ _ x c.word_in-w.ensures (listed-more i.0 w.0 c.enlist.ensures) c.enter_sublist-inner.ensures k (omega arith)))
-          c.if-c-eq0.false g),
+          (λ k h r g. walk-on _ _ _ _ k (met _ _ _ _ i.0 c.in-Ok.ensures) (link-in x _ c.word_in-w.ensures)
+          (inner _ _ _ x c.word_in-w.ensures (listed-more i.0 w.0 c.enlist.ensures) e k (omega arith)) c.if-c-eq0.false g),
     )

@@ -16,8 +16,8 @@ decreases-enter_sublist l = 2 * (deepest + 2 - l.depth)
 abbrev pub decreases-walk_links : goal.decreases-walk_links
 decreases-walk_links l = 2 * (deepest + 2 - l.depth) + 1
 
-abbrev pub invariant-walk_links-loop-order : goal.invariant-walk_links-loop-order
-invariant-walk_links-loop-order l = let z₀ = unmet (length l.cells) l.initial.marks in
+abbrev pub invariant-walk_links-loop-x : goal.invariant-walk_links-loop-x
+invariant-walk_links-loop-x l = let z₀ = unmet (length l.cells) l.initial.marks in
     let z = unmet (length l.cells) l.marks in
     Holds l.cells l.order l.marks l.n
     × (z ≤ z₀)
@@ -25,5 +25,5 @@ invariant-walk_links-loop-order l = let z₀ = unmet (length l.cells) l.initial.
     × Leads (λ f. Visits (enter f l.depth l.head) l.cells (back l.from l.initial.order)) z₀
     (λ f. Visits (step l.linked f l.depth l.c) l.cells (back l.n l.order)) z
 
-abbrev pub decreases-walk_links-loop-order : goal.decreases-walk_links-loop-order
-decreases-walk_links-loop-order l = unmet (length l.cells) l.marks
+abbrev pub decreases-walk_links-loop-x : goal.decreases-walk_links-loop-x
+decreases-walk_links-loop-x l = unmet (length l.cells) l.marks
