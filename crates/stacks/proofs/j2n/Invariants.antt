@@ -1,12 +1,5 @@
-use Rattle.paper.proofs.Kit.{◌-◌, ◌≤◌}
 use Rattle.paper.specs.Process.{move_to}
-use Rattle.undo.specs.Did.{Top}
-use Rattle.undo.specs.Verdict.{told}
-use Rattle.stacks.proofs.Each.{Each}
 use Rattle.stacks.proofs.j2n.Given as goal
 
-abbrev pub invariant-loop-i : goal.invariant-loop-i
-invariant-loop-i l = (l.i ≤ l.n) × Each (Top l.top) 2 move_to l.i (l.initial.cells, l.initial.log) (told l.go-2) (l.cells, l.log) (told l.go)
-
-abbrev pub decreases-loop-i : goal.decreases-loop-i
-decreases-loop-i l = l.n - l.i
+abbrev pub ghost-each_w : goal.ghost-each_w
+ghost-each_w a = move_to

@@ -1,18 +1,10 @@
-use Rattle.paper.proofs.Kit.{ap, arith}
+use Rattle.paper.proofs.Kit.{ap}
 use Rattle.paper.specs.Act.{own_store}
 use Rattle.paper.specs.Process.{move_to}
 use Rattle.steps.proofs.Sequence.{any, any-sees, then, alike, most}
 use Rattle.undo.proofs.Lines.{looks}
 use Rattle.undo.proofs.Log.{writes-most}
 use Rattle.stacks.proofs.move_to.Goals as goal
-
-pub own_store-requires : goal.own_store-requires
-own_store-requires c =
-    record { fits = omega (arith, writes-most c.args.w) }
-
-pub pop-requires : goal.pop-requires
-pop-requires c =
-    record { fits = omega (arith, writes-most c.args.w, c.own_store.ensures.kept.count); ends = omega arith }
 
 pub returns : goal.returns
 unfolding move_to

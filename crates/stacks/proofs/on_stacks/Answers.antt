@@ -52,7 +52,7 @@ returns-in-30-to-39 c =
 pub returns-in-40-to-49 : goal.returns-in-40-to-49
 unfolding entry_for listed
 returns-in-40-to-49 c =
-    tens 40 J4n refl (omega arith) (omega arith) (omega arith) c.j4n.ensures (λ e h. tt)
+    tens 40 J4n refl (omega arith) (omega arith) (omega arith) c.j4n.ensures (λ e h. h)
 
 pub returns-in-50-to-59 : goal.returns-in-50-to-59
 unfolding entry_for listed
@@ -63,4 +63,7 @@ pub returns-in_default : goal.returns-in_default
 unfolding none_for listed member
 returns-in_default c =
     unlisted 0 19 _ (0 ∷ 2 ∷ 3 ∷ 4 ∷ 5 ∷ 6 ∷ 8 ∷ 9 ∷ 1 ∷ []) refl (omega arith)
-    (elim c.in_default.branch [ in_default-via-then-j-lt20 w ↦ omega arith | in_default-via-else-j-lt20+else-j-lt30+else-j-lt40+else-j-lt50+else-j-lt60 w ↦ omega arith ]) (search rules, c.requires.2) c.refuse_if.ensures
+    (elim c.in_default.branch [
+      | in_default-via-then-j-lt20 w ↦ omega arith
+      | in_default-via-else-j-lt20+else-j-lt30+else-j-lt40+else-j-lt50+else-j-lt60 w ↦ omega arith
+    ]) (search rules, c.requires.2)

@@ -1,4 +1,4 @@
-use Rattle.paper.proofs.Kit.{[], ◌∷◌, refl, arith}
+use Rattle.paper.proofs.Kit.{[], ◌∷◌, refl, arith, rules}
 use Rattle.paper.specs.Walk.{member}
 use Rattle.paper.specs.Process.{listed}
 use Rattle.steps.proofs.Listed.{entry_for, none_for}
@@ -32,4 +32,4 @@ returns-in-138 c = search arms
 pub returns-in_default : goal.returns-in_default
 unfolding none_for listed member
 returns-in_default c =
-    unlisted 130 151 _ (130 ∷ 131 ∷ 132 ∷ 134 ∷ 136 ∷ 138 ∷ []) refl (omega arith) (omega arith) c.in_default.in_default-own.rest c.refuse_if.ensures
+    unlisted 130 151 _ (130 ∷ 131 ∷ 132 ∷ 134 ∷ 136 ∷ 138 ∷ []) refl (omega arith) (omega arith) (search rules)

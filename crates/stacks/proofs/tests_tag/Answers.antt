@@ -1,5 +1,5 @@
-use Rattle.paper.specs.Process.{tests_tag}
 use Rattle.acts.proofs.Auto.{acting}
+use Rattle.paper.specs.Process.{tests_tag}
 use Rattle.stacks.proofs.tests_tag.Goals as goal
 
 pub returns : goal.returns
