@@ -1,5 +1,5 @@
-use Rattle.paper.specs.Process.{at_end}
 use Rattle.acts.proofs.Auto.{acting}
+use Rattle.paper.specs.Process.{at_end}
 use Rattle.lists.proofs.at_end.Goals as goal
 
 pub returns : goal.returns

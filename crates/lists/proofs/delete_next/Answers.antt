@@ -1,19 +1,15 @@
-use Rattle.paper.proofs.Kit.{arith}
 use Rattle.paper.specs.Process.{delete_next}
-use Rattle.steps.proofs.Sequence.{then, most}
-use Rattle.undo.proofs.Log.{writes-most}
+use Rattle.steps.proofs.Sequence.{same_err, then, then_err, most}
 use Rattle.undo.proofs.Auto.{w2}
+use Rattle.paper.proofs.Kit.{arith}
 use Rattle.lists.proofs.delete_next.Goals as goal
 
-pub pull_up-go-requires : goal.pull_up-go-requires
-pull_up-go-requires c =
-    record { fits = omega (arith, writes-most c.args.c); ends = omega arith }
-
-pub tests1-requires : goal.tests1-requires
-tests1-requires c =
-    record { fits = omega (arith, writes-most c.args.c, c.pull_up-go.ensures.kept.count); ends = omega arith }
+pub returns-in_err-pull_up : goal.returns-in_err-pull_up
+unfolding delete_next
+returns-in_err-pull_up c =
+    rw (same_err c.from_residual.ensures.1) (most 3 (omega arith) (then_err _ (most 2 (w2 c.args.c) c.in_err-pull_up.ensures)))
 
 pub returns : goal.returns
 unfolding delete_next
 returns c =
-    then (most 2 (w2 c.args.c) c.pull_up-go.ensures) c.tests1.ensures
+    then (most 2 (w2 c.args.c) c.in_ok-pull_up.ensures) c.tests.ensures

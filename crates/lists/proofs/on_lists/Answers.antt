@@ -1,4 +1,4 @@
-use Rattle.paper.proofs.Kit.{refl, [], ◌∷◌, arith}
+use Rattle.paper.proofs.Kit.{refl, [], ◌∷◌, arith, rules}
 use Rattle.paper.specs.Process.{listed}
 use Rattle.paper.specs.Walk.{member}
 use Rattle.steps.proofs.Listed.{entry_for, none_for}
@@ -29,4 +29,4 @@ pub returns-in_default : goal.returns-in_default
 unfolding none_for listed member
 returns-in_default c =
     unlisted 60 109 _ (60 ∷ 63 ∷ 64 ∷ 68 ∷ 90 ∷ 71 ∷ 72 ∷ 74 ∷ []) refl (omega arith) (omega arith)
-    (((c.in_default.in_default-own.rest, c.requires.3), c.requires.4), c.requires.5) c.refuse_if.ensures
+    (((search rules, c.requires.3), c.requires.4), c.requires.5)
