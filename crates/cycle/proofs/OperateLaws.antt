@@ -1,19 +1,21 @@
 -- "Then by P": an operation after which control goes on, by its number; and the last, which branches.
-use Rattle.paper.proofs.Kit.{ℕ, ◌<◌, ◌≤◌, ◌≡◌, sym, ap, ◌∙◌, false, [], ◌∷◌, Option, arith, ne_eqb, eqb}
+use Rattle.paper.proofs.Kit.{ℕ, ◌<◌, ◌≤◌, ◌≡◌, sym, ap, ◌∙◌, false, [], ◌∷◌, arith, ne_eqb, eqb}
+use Rattle.std.specs.Prelude.{Result, Ok, Err}
 use Rattle.paper.specs.declared.Refusal.{Refusal}
 use Rattle.paper.specs.declared.Symbol.{Symbol}
 use Rattle.paper.specs.Cell.{State}
 use Rattle.paper.specs.Act.{Act, choose}
 use Rattle.paper.specs.Cycle.{goes_on, after, branch, operate}
-use Rattle.steps.specs.Follows.{World, Follows}
+use Rattle.steps.specs.Follows.{World, Follows, seen_as}
 use Rattle.steps.proofs.Rest.{Rest}
-use Rattle.steps.proofs.Sequence.{then, give, alike, most, under}
+use Rattle.steps.proofs.Sequence.{then, then_err, give, alike, most, under}
 
-module _ {W : World State Refusal} {K J : W.Rest → Type 0} {y z : W.Held} {a r : Option Refusal} {k i : ℕ} where
-  pub operates : (p n : ℕ) (x : Symbol) {M : Act (Unit {0})} → p ≡ n → after M ≡ operate n x → k ≤ i → ((e : W.Rest) → K e → J e)
-      → Follows W J k M y a z r tt → Follows W K i (operate p x) y a z r goes_on
+module _ {W : World State Refusal} {K J : W.Rest → Type 0} {y z : W.Held} {k i : ℕ} where
+  pub operates : (p n : ℕ) (x : Symbol) {M : Act (Unit {0})} (r : Result (Unit {0}) Refusal) → p ≡ n → after M ≡ operate n x → k ≤ i
+      → ((e : W.Rest) → K e → J e) → Follows W J k M y z r → Follows W K i (operate p x) y z (seen_as (λ _. goes_on) r)
   unfolding after
-  operates p n x e f h w d = alike (f ∙ ap (λ j. operate j x) (sym e)) (most i (omega arith) (then (under w d) give))
+  operates p n x (Ok v) e f h w d = alike (f ∙ ap (λ j. operate j x) (sym e)) (most i (omega arith) (then (under w d) give))
+  operates p n x (Err c) e f h w d = alike (f ∙ ap (λ j. operate j x) (sym e)) (most i (omega arith) (then_err _ (under w d)))
 
 pub branches : (p : ℕ) (x : Symbol) → 6 < p → branch x ≡ operate p x
 unfolding operate choose

@@ -1,29 +1,28 @@
--- What a part of a cycle has done: as `Printing` of crate printing, in at most k writes that are logged, from a verdict that refuses nothing.
--- A part sees only its own line.
-use Rattle.std.specs.Prelude.{ℕ, ◌-◌, ◌≤◌, List, [], length}
-use Rattle.std.proofs.Math.Option.{none}
-use Rattle.paper.specs.Cell.{Region}
+-- What a part of a cycle has done: as `Printing` of crate printing, in at most k writes that are logged. A part sees only its own line.
+use Rattle.std.specs.Prelude.{ℕ, ◌≤◌, List, length, Result}
+use Rattle.paper.specs.declared.Refusal.{Refusal}
 use Rattle.paper.specs.Act.{Act}
-use Rattle.steps.specs.Follows.{Follows}
-use Rattle.regions.specs.Lent.{Tells, Told}
-use Rattle.undo.specs.Verdict.{told}
+use Rattle.paper.specs.Cycle.{Control}
+use Rattle.steps.specs.Follows.{seen_as}
+use Rattle.regions.specs.Lent.{Told}
 use Rattle.undo.specs.Log.{Room}
 use Rattle.undo.specs.Did.{Lent, Shown}
 use Rattle.structures.specs.Walks.{Clean}
-use Rattle.printing.specs.declared.Printed.{Printed}
-use Rattle.printing.specs.Telling.{Hears, telling, line_in, Stands}
+use Rattle.printing.specs.Telling.{Printing}
+use Rattle.cycle.specs.Moves.{control_of}
+use Rattle.cycle.specs.declared.control.Operated.{Operated}
 
-pub record Part {A : Type 0} (table : List ℕ) (k : ℕ) (M : Act A) (x : List ℕ × List ℕ) (d : List ℕ) (at : ℕ) (y : List ℕ × List ℕ) (d' : List ℕ)
-    (r : Printed) (v : A)
-    : Type 0 where
-  pub follows : (rs : List Region) → Tells table rs
-      → Follows telling (Hears rs (length d - at)) k M (x, []) none (y, line_in d' at r.end) (told r.go) v
-  pub stands : Stands d at d' r
+-- the contract: over the lent cells, log, table and output; e says where the lines end, and r what the block comes to
+abbrev pub Steps : {A : Type 0} → ℕ → Act A → Lent → Lent → Shown → Lent → ℕ → Result ℕ Refusal → Result A Refusal → Type 0
+Steps k M cells log table out at e r =
+    Printing table.entry.now k M (cells.entry.now, log.entry.now) out.entry.now at (cells.exit.now, log.exit.now) out.exit.now e r
 
--- the contract: over the lent cells, log, table and output
-abbrev pub Steps : {A : Type 0} → ℕ → Act A → Lent → Lent → Shown → Lent → ℕ → Printed → A → Type 0
-Steps k M cells log table out at r v =
-    Part table.entry.now k M (cells.entry.now, log.entry.now) out.entry.now at (cells.exit.now, log.exit.now) out.exit.now r v
+-- of what an operation came to: where the lines end, and where control is
+abbrev pub end_in : Result Operated Refusal → Result ℕ Refusal
+end_in r = seen_as (λ o. o.end) r
+
+abbrev pub control_in : Result Operated Refusal → Result Control Refusal
+control_in r = seen_as (λ o. control_of o.away) r
 
 -- what a part is lent: a clean scratch, room for k writes, lines within the lent bytes, and a table
 pub record Lends (k : ℕ) (s l order marks table out : List ℕ) (at : ℕ) : Type 0 where

@@ -46,6 +46,6 @@ returns-in-130-to-151 c = record {
 pub returns-in-152-to-65535 : goal.returns-in-152-to-65535
 unfolding none_for listed member
 returns-in-152-to-65535 c = record {
-  did = unlisted 154 65535 _ [] refl (omega arith) (omega (arith, c.ranges.j)) tt c.refuse_if.ensures;
+  did = unlisted 154 65535 _ [] refl (omega arith) (omega (arith, c.ranges.j)) tt;
   clean = c.requires.0;
 }

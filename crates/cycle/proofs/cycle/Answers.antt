@@ -7,25 +7,25 @@ use Rattle.cycle.proofs.cycle.Goals as goal
 pub returns-then-c-eq0 : goal.returns-then-c-eq0
 returns-then-c-eq0 c =
     λ rs w.
-    let p = ascends _ c.own-h.ensures _ _ _ (c.requires.1) c.top_of.ensures.0 c.if-c-eq0.true c.ascend-go.ensures in
+    let p = ascends _ c.own-h.ensures _ _ c.requires.1 _ c.and-outcome.ensures c.top_of.ensures.0 c.if-c-eq0.true c.ascend.ensures in
     record {
-      came = came rs w _ _ _ _ p c.begin.ensures _ _ c.settle.ensures;
+      came = came rs w _ _ _ c.begin.ensures _ _ p _ c.settle.ensures;
       ready = record {
         room = omega (
           arith,
           c.requires.0.room,
           c.begin.auto,
-          c.ascend-go.auto.cells,
-          c.ascend-go.auto.log,
+          c.ascend.auto.cells,
+          c.ascend.auto.log,
           c.settle.auto.cells,
         );
-        clean = clean-as (c.settle.auto.cells ∙ c.ascend-go.auto.cells) (c.requires.0.clean);
+        clean = clean-as (c.settle.auto.cells ∙ c.ascend.auto.cells) (c.requires.0.clean);
       };
-      formed = stays-formed rs w _ _ _ _ p c.begin.ensures _ _ c.settle.ensures;
+      formed = stays-formed rs w _ _ _ c.begin.ensures _ _ p c.settle.ensures;
     }
 
-pub interpret-p-requires : goal.interpret-p-requires
-interpret-p-requires c =
+pub interpret-outcome-requires : goal.interpret-outcome-requires
+interpret-outcome-requires c =
     record {
       clean = c.requires.0.clean;
       room = record { fits = omega (arith, c.requires.0.room, c.begin.ensures.count, c.begin.auto) };
@@ -41,30 +41,30 @@ settle-requires-2 c = (
       c.requires.0.room,
       c.begin.ensures.count,
       c.begin.auto,
-      c.interpret-p.auto.cells,
-      c.interpret-p.auto.log,
-      (c.interpret-p.ensures.steps.follows _ (c.requires.2.tells)).kept.count,
+      c.interpret-outcome.auto.cells,
+      c.interpret-outcome.auto.log,
+      (c.interpret-outcome.ensures.steps.follows _ (c.requires.2.tells)).kept.count,
     );
   },
-  omega (arith, c.requires.0.clean.large, c.interpret-p.auto.cells),
+  omega (arith, c.requires.0.clean.large, c.interpret-outcome.auto.cells),
 )
 
 pub returns : goal.returns
 returns c =
     λ rs w.
-    let p = goes _ c.own-h.ensures c.if-c-eq0.false c.interpret-p.ensures.steps in
+    let p = goes _ c.own-h.ensures c.if-c-eq0.false c.interpret-outcome.ensures.steps in
     record {
-      came = came rs w _ _ _ _ p c.begin.ensures _ _ c.settle-2.ensures;
+      came = came rs w _ _ _ c.begin.ensures _ _ p _ c.settle-2.ensures;
       ready = record {
         room = omega (
           arith,
           c.requires.0.room,
           c.begin.auto,
-          c.interpret-p.auto.cells,
-          c.interpret-p.auto.log,
+          c.interpret-outcome.auto.cells,
+          c.interpret-outcome.auto.log,
           c.settle-2.auto.cells,
         );
-        clean = clean-as (c.settle-2.auto.cells) (c.interpret-p.ensures.clean);
+        clean = clean-as (c.settle-2.auto.cells) (c.interpret-outcome.ensures.clean);
       };
-      formed = stays-formed rs w _ _ _ _ p c.begin.ensures _ _ c.settle-2.ensures;
+      formed = stays-formed rs w _ _ _ c.begin.ensures _ _ p c.settle-2.ensures;
     }

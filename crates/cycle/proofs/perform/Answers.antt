@@ -1,6 +1,8 @@
-use Rattle.cycle.proofs.PartLaws.{printed-part, part-quiet, from-none}
+use Rattle.cycle.proofs.PartLaws.{part-quiet, part-most}
 use Rattle.structures.proofs.Whole.{clean-as}
-use Rattle.paper.proofs.Kit.{arith, rules}
+use Rattle.steps.proofs.Sequence.{same_err}
+use Rattle.paper.proofs.Kit.{arith, refl, rules}
+use Rattle.std.specs.Prelude.{Ok, Err}
 use Rattle.cycle.proofs.perform.Goals as goal
 
 pub on_lines-requires : goal.on_lines-requires
@@ -14,12 +16,12 @@ on_lines-requires c = (
 
 pub returns-then-j-le153 : goal.returns-then-j-le153
 returns-then-j-le153 c = record {
-  steps = printed-part _ (omega arith) c.on_lines.ensures;
+  steps = part-most _ (omega arith) c.on_lines.ensures;
   clean = clean-as c.on_lines.auto.cells c.requires.0.clean;
 }
 
-pub by_family-go-requires : goal.by_family-go-requires
-by_family-go-requires c = (
+pub by_family-requires : goal.by_family-requires
+by_family-requires c = (
   c.requires.0.clean,
   record { fits = c.requires.0.room.fits; ends = c.top_of.ensures.1 },
   c.requires.1,
@@ -28,8 +30,15 @@ by_family-go-requires c = (
   c.requires.2,
 )
 
+pub returns-in_err-by_family : goal.returns-in_err-by_family
+returns-in_err-by_family c =
+    rw (same_err c.from_residual.ensures.1) record {
+      steps = part-quiet _ _ _ c.requires.0.within (Err _) refl c.top_of.ensures.0 (c.in_err-by_family.ensures).did;
+      clean = (c.in_err-by_family.ensures).clean;
+    }
+
 pub returns : goal.returns
 returns c = record {
-  steps = part-quiet _ _ _ _ c.requires.0.within c.top_of.ensures.0 (from-none c.by_family-go.ensures.did);
-  clean = c.by_family-go.ensures.clean;
+  steps = part-quiet _ _ _ c.requires.0.within (Ok _) refl c.top_of.ensures.0 (c.in_ok-by_family.ensures).did;
+  clean = (c.in_ok-by_family.ensures).clean;
 }

@@ -1,33 +1,20 @@
-use Rattle.paper.proofs.Kit.{refl, eq-eqb}
-use Rattle.paper.specs.declared.Refusal.TheVariants.{WrongKind}
-use Rattle.paper.specs.Act.{designate}
-use Rattle.steps.proofs.Sequence.{bind, test, give, taken, seen}
-use Rattle.undo.proofs.Leaves.{naming}
-use Rattle.undo.proofs.Early.{hands_on, stops, t-fails-eq, t-passes-eq}
+use Rattle.undo.proofs.Auto.{lines}
+use Rattle.steps.proofs.Sequence.{same_err}
 use Rattle.cycle.specs.Order.{order_in}
-use Rattle.cycle.proofs.FetchLaws.{as-told}
 use Rattle.cycle.proofs.fetched.order_in.Goals as goal
 
-pub returns-then-q-eq-INTERNAL : goal.returns-then-q-eq-INTERNAL
+pub returns-in_err-refuse_if : goal.returns-in_err-refuse_if
 unfolding order_in
-returns-then-q-eq-INTERNAL c =
-    let no = c.refused.ensures in
-    as-told c.nothing.ensures (stops (WrongKind _) _ (t-fails-eq 0 _ (WrongKind _) _ 4 no refl c.if-q-eq-INTERNAL.true) no)
+returns-in_err-refuse_if c = let e = c.in_err-refuse_if.ensures in rw (same_err c.from_residual.ensures.1) (search lines depth 20)
 
-pub returns-then-go-ne0 : goal.returns-then-go-ne0
+pub returns-in_err-not_own : goal.returns-in_err-not_own
 unfolding order_in
-returns-then-go-ne0 c =
-    as-told c.nothing-then-go-ne0.ensures (test (t-passes-eq (WrongKind _) _ 4 c.if-q-eq-INTERNAL.false) (test c.not_own-go.ensures (hands_on _ _ c.if-go-ne0.true)))
+returns-in_err-not_own c = let h0 = c.in_ok-refuse_if.ensures in let e = c.in_err-not_own.ensures in rw (same_err c.from_residual-in_err-not_own.ensures.1) (search lines depth 20)
 
-pub returns-then-q-eq0 : goal.returns-then-q-eq0
-unfolding order_in designate
-returns-then-q-eq0 c =
-    test (t-passes-eq (WrongKind _) _ 4 c.if-q-eq-INTERNAL.false)
-    (test c.not_own-go.ensures
-    (bind _ (taken _ _ (eq-eqb _ _ c.if-q-eq0.true) (seen (naming _ _ _ c.name_of.ensures))) give))
+pub returns-in_err-x : goal.returns-in_err-x
+unfolding order_in
+returns-in_err-x c = let h0 = c.in_ok-refuse_if.ensures in let h1 = c.in_ok-not_own.ensures in let e = c.in_err-x.ensures in rw (same_err c.from_residual-in_err-x.ensures.1) (search lines depth 20)
 
 pub returns : goal.returns
 unfolding order_in
-returns c =
-    test (t-passes-eq (WrongKind _) _ 4 c.if-q-eq-INTERNAL.false)
-    (test c.not_own-go.ensures (bind _ c.designate-g.ensures give))
+returns c = let h0 = c.in_ok-refuse_if.ensures in let h1 = c.in_ok-not_own.ensures in let h2 = c.in_ok-x.ensures in search lines depth 20

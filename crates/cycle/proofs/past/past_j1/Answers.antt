@@ -1,58 +1,39 @@
-use Rattle.paper.proofs.Kit.{refl, ◌∙◌, sym, arith, ltb, ltb-true, eq-eqb}
-use Rattle.paper.specs.declared.Refusal.TheVariants.{WrongKind}
-use Rattle.paper.proofs.SoundStore.{and-true}
-use Rattle.steps.proofs.Sequence.{when}
-use Rattle.undo.proofs.Early.{t-passes-eq}
-use Rattle.cycle.proofs.ReachLaws.{reach-none, reach-then, reach-most, j1-turn, past}
+use Rattle.paper.proofs.Kit.{◌+◌, ◌-◌, ◌≡◌, ap, sym, ◌∙◌, arith, length}
+use Rattle.steps.proofs.Sequence.{same_err, most, alike}
+use Rattle.paper.specs.Cycle.{execute}
+use Rattle.cycle.specs.Reaches.{Past}
+use Rattle.cycle.proofs.ReachLaws.{reach-then, reach-most, reach-follows, j1-begins, j1-left, j1-turn, j1-refused, j1-spent}
 use Rattle.cycle.proofs.past.past_j1.Goals as goal
 
-pub overflow_add-turns : goal.overflow_add-turns
-overflow_add-turns c = omega (arith, c.requires.1)
-
-pub loop-turns-init : goal.loop-turns-init
-loop-turns-init c = (refl, refl, omega arith, reach-most _ (omega arith) reach-none)
-
-pub pop-go-requires : goal.pop-go-requires
-pop-go-requires c =
-    let t = and-true (ltb 0 c.loop-turns.turns) _ c.loop-turns-test.true in
+pub returns-then-not-is_j1 : goal.returns-then-not-is_j1
+unfolding Past
+returns-then-not-is_j1 c =
+    let n = length c.args.cells.now + 1 - c.loop.counter in
     record {
-      fits = omega (
-        arith,
-        ltb-true 0 c.loop-turns.turns t.0,
-        c.loop-turns.invariant.1,
-        c.loop-turns.invariant.2,
-        c.loop-turns.invariant.3.kept.count,
-        c.requires.0.fits,
-      );
-      ends = c.requires.0.ends;
+      turns = n - 1;
+      reaches = reach-most _ (omega arith) (reach-then (j1-begins _) (reach-then c.loop.invariant.2 (j1-left n _ (omega arith))));
+      other = sym c.is_j1.ensures ∙ c.if-not-is_j1.true;
     }
 
-pub overflow_sub-turns : goal.overflow_sub-turns
-overflow_sub-turns c =
-    omega (arith, ltb-true 0 c.loop-turns.turns (and-true (ltb 0 c.loop-turns.turns) _ c.loop-turns-test.true).0)
+pub returns-in_err-pop : goal.returns-in_err-pop
+unfolding Past
+returns-in_err-pop c =
+    rw (same_err c.from_residual.ensures.1) (most _ (omega arith) (reach-follows (j1-begins _) (reach-follows c.loop.invariant.2
+    (j1-refused _ _ (omega arith) (sym c.is_j1.ensures ∙ c.if-not-is_j1.false) c.own-w0.ensures c.in_err-pop.ensures))))
 
-pub loop-turns-smaller : goal.loop-turns-smaller
-loop-turns-smaller c =
-    omega (arith, ltb-true 0 c.loop-turns.turns (and-true (ltb 0 c.loop-turns.turns) _ c.loop-turns-test.true).0)
-
-pub loop-turns-preserved : goal.loop-turns-preserved
-loop-turns-preserved c =
-    let t = and-true (ltb 0 (c.loop-turns.turns)) _ c.loop-turns-test.true in
-    let more = ltb-true 0 (c.loop-turns.turns) t.0 in (
-      c.pop-go.auto.cells ∙ c.loop-turns.invariant.0,
-      c.pop-go.auto.log ∙ c.loop-turns.invariant.1,
-      omega (arith, c.loop-turns.invariant.2),
-      reach-most _ (omega (arith, more, c.loop-turns.invariant.2)) (reach-then (c.loop-turns.invariant.3)
-          (j1-turn (c.loop-turns.turns) (c.loop-turns.y) (c.loop-turns.go) more (sym c.is_j1.ensures ∙ t.1) c.own-w0.ensures c.symbol-y.ensures
-          c.pop-go.ensures)),
+pub loop-preserved : goal.loop-preserved
+loop-preserved c =
+    let n = length c.args.cells.now + 1 - c.loop.counter in
+    let p : n - 1 ≡ length c.args.cells.now + 1 - (c.loop.counter + 1) = omega arith in (
+      omega arith,
+      omega arith,
+      rw (← p) (reach-then c.loop.invariant.2
+          (j1-turn n _ (omega arith) (sym c.is_j1.ensures ∙ c.if-not-is_j1.false) c.own-w0.ensures c.symbol-y.ensures c.in_ok-pop.ensures)),
     )
 
-pub returns-then-turns-eq0 : goal.returns-then-turns-eq0
-returns-then-turns-eq0 c =
-    past _ c.loop-turns.turns c.loop-turns.y c.loop-turns.go _ c.loop-turns.invariant.2 c.loop-turns.invariant.3 c.is_j1.ensures c.loop-turns-test.false
-    (when (WrongKind _) (sym (eq-eqb _ 0 c.if-turns-eq0.true)) c.refuse_if.ensures)
-
 pub returns : goal.returns
+unfolding Past
 returns c =
-    past _ c.loop-turns.turns c.loop-turns.y c.loop-turns.go _ c.loop-turns.invariant.2 c.loop-turns.invariant.3 c.is_j1.ensures c.loop-turns-test.false
-    (t-passes-eq (WrongKind _) _ 0 c.if-turns-eq0.false)
+    let p : length c.args.cells.now + 1 - c.loop.counter ≡ 0 = omega arith in
+    most _ (omega arith) (reach-follows (j1-begins _) (reach-follows c.loop.invariant.2
+    (alike (sym (ap (λ n. execute n c.loop.y) p)) (j1-spent c.loop.y))))
