@@ -8,10 +8,8 @@ ghost use Rattle.regions.specs.Lent.{Tells, Told};
 ghost use Rattle.cycle.specs.Turns.{Ready};
 ghost use Rattle.machine.specs.Numbers.{numbers, is_finished_in, cycles_on, run_on};
 
-use cycle::Cycled;
 use paper::{RunAnswer, limits};
 use regions::{Regions, Table};
-use sound::Asked;
 use structures::{Marks, Order};
 
 // A cycle logs at most two writes a cell and 41 more. The log takes two numbers a write, one to count them, and four for the cells it saves.
@@ -46,7 +44,7 @@ fn finished(cells: &[u64]) -> bool
     (h / cells::SYMB % 65536 == 0) & (h % 65536 == 0)
 }
 
-// "The finish is looked for before the budget."
+// "The finish is looked for before the budget." The finish ends the loop, as no range can, so the cycles are counted beside it.
 fn cycles(
     cells: &mut [u64],
     log: &mut [u64],
@@ -66,13 +64,12 @@ fn cycles(
         if done == budget {
             return came_to(RunAnswer::BudgetSpent, done, at);
         }
-        let c = cycle::cycle(cells, log, order, marks, table, out, at);
-        match c {
-            Cycled::Progress(end) => {
+        match cycle::cycle(cells, log, order, marks, table, out, at) {
+            Ok(end) => {
                 at = end;
                 done += 1;
             }
-            Cycled::Refused(e) => return came_to(RunAnswer::Refused(e), done, at),
+            Err(e) => return came_to(RunAnswer::Refused(e), done, at),
         }
     }
     came_to(RunAnswer::Finished, done, at)
@@ -82,10 +79,9 @@ fn cycles(
 pub fn run(cells: &mut [u64], regions: Regions, budget: u32, out: &mut [u8]) -> Ran
     ensures { numbers result cells.new out.new ≡ run_on regions budget cells.old out.old }
 {
-    let q = sound::asks(cells, regions);
-    match q {
-        Asked::Not(a) => came_to(a, 0, 0),
-        Asked::Top(_) => {
+    match sound::asks(cells, regions) {
+        Err(answer) => came_to(answer, 0, 0),
+        Ok(_) => {
             if budget > limits::LARGEST_BUDGET {
                 return came_to(RunAnswer::NotSound, 0, 0);
             }

@@ -30,8 +30,8 @@ returns-then-done-budget c =
     c.loop-budget.invariant.3 c.loop-budget.invariant.7 (c.loop-budget.invariant.8 rs w)
     (ap (λ i. run_from i c.loop-budget.done t) none ∙ run-spent t c.loop-budget.done (sym c.finished.ensures ∙ c.loop-budget-test.true))
 
-pub cycle-c-requires : goal.cycle-c-requires
-cycle-c-requires c =
+pub cycle-requires : goal.cycle-requires
+cycle-requires c =
     (c.loop-budget.invariant.0, c.loop-budget.invariant.3, c.requires.2)
 
 pub overflow_add-done : goal.overflow_add-done
@@ -46,12 +46,12 @@ pub loop-budget-preserved : goal.loop-budget-preserved
 unfolding is_finished Came
 loop-budget-preserved c =
     let l = c.loop-budget.invariant in
-    let d = c.cycle-c.auto in
+    let d = c.cycle.auto in
     let more : c.loop-budget.done < c.args.budget = omega (arith, l.2, c.if-done-budget.false) in
     let (q, up, within, past) = subst
-    (λ r. Came c.requires.2.regions c.loop-budget.cells c.loop-budget.out c.loop-budget.at c.cycle-c.new.cells c.cycle-c.new.out r)
-    c.in-Progress.is (c.cycle-c.ensures c.requires.2.regions c.requires.2.tells).came in
-    let kept = c.cycle-c.ensures c.requires.2.regions c.requires.2.tells in (
+    (λ r. Came c.requires.2.regions c.loop-budget.cells c.loop-budget.out c.loop-budget.at c.cycle.new.cells c.cycle.new.out r)
+    c.in-Ok.is (c.cycle.ensures c.requires.2.regions c.requires.2.tells).came in
+    let kept = c.cycle.ensures c.requires.2.regions c.requires.2.tells in (
       kept.ready,
       kept.formed l.1,
       omega (arith, l.2, c.if-done-budget.false),
@@ -62,22 +62,22 @@ loop-budget-preserved c =
       past ∙ past-later c.loop-budget.at _ c.loop-budget.out c.args.out.now up l.7,
       λ rs w.
           let (goes, up, within, past) = subst
-          (λ r. Came rs c.loop-budget.cells c.loop-budget.out c.loop-budget.at c.cycle-c.new.cells c.cycle-c.new.out r)
-          c.in-Progress.is (c.cycle-c.ensures rs w).came in
+          (λ r. Came rs c.loop-budget.cells c.loop-budget.out c.loop-budget.at c.cycle.new.cells c.cycle.new.out r)
+          c.in-Ok.is (c.cycle.ensures rs w).came in
           l.8 rs w ∙ run-goes (state_at rs c.loop-budget.cells c.loop-budget.out c.loop-budget.at) c.loop-budget.done c.args.budget more
           (sym c.finished.ensures ∙ c.loop-budget-test.true) _ goes,
     )
 
-pub returns-in-Refused : goal.returns-in-Refused
+pub returns-in-Err : goal.returns-in-Err
 unfolding is_finished Came
-returns-in-Refused c =
+returns-in-Err c =
     λ rs w.
     let l = c.loop-budget.invariant in
     let t = state_at rs c.loop-budget.cells c.loop-budget.out c.loop-budget.at in
-    let (q, s, o) = subst (λ r. Came rs c.loop-budget.cells c.loop-budget.out c.loop-budget.at c.cycle-c.new.cells c.cycle-c.new.out r)
-    c.in-Refused.is (c.cycle-c.ensures rs w).came in
+    let (q, s, o) = subst (λ r. Came rs c.loop-budget.cells c.loop-budget.out c.loop-budget.at c.cycle.new.cells c.cycle.new.out r)
+    c.in-Err.is (c.cycle.ensures rs w).came in
     let more : c.loop-budget.done < c.args.budget = omega (arith, l.2, c.if-done-budget.false) in
-    ap (λ (r : Ran). numbers r c.cycle-c.new.cells c.cycle-c.new.out) c.came_to-in-Refused.ensures
+    ap (λ (r : Ran). numbers r c.cycle.new.cells c.cycle.new.out) c.came_to-in-Err.ensures
     ∙ closes rs c.args.budget _ c.args.cells.now c.args.out.now c.loop-budget.cells c.loop-budget.out _ s o l.1 l.3 l.7 (l.8 rs w)
     (run-stops t c.loop-budget.done c.args.budget more (sym c.finished.ensures ∙ c.loop-budget-test.true) _ q)
 

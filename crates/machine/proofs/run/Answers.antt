@@ -9,11 +9,11 @@ use Rattle.machine.proofs.run.Goals as goal
 pub returns-then-budget-gt-LARGEST_BUDGET : goal.returns-then-budget-gt-LARGEST_BUDGET
 returns-then-budget-gt-LARGEST_BUDGET c =
     ap (λ (r : Ran). numbers r c.args.cells.now c.args.out.now) c.came_to-then-budget-gt-LARGEST_BUDGET.ensures
-    ∙ run-over _ _ _ _ c.in-Top.ensures.size c.if-budget-gt-LARGEST_BUDGET.true
+    ∙ run-over _ _ _ _ c.in-Ok.ensures.size c.if-budget-gt-LARGEST_BUDGET.true
 
 pub cycles-requires : goal.cycles-requires
 cycles-requires c =
-    let d = c.in-Top.ensures in
+    let d = c.in-Ok.ensures in
     let n = size-range (length c.args.cells.now) d.size in (
       record {
         room = omega (arith, n.1, length-replicate {A = ℕ} (2 * (2 * largest_n + 41) + 5) 1);
@@ -34,12 +34,12 @@ cycles-requires c =
       },
     )
 
-pub returns-in-Not : goal.returns-in-Not
-returns-in-Not c =
+pub returns-in-Err : goal.returns-in-Err
+returns-in-Err c =
     ap (λ (r : Ran). numbers r c.args.cells.now c.args.out.now) c.came_to.ensures
-    ∙ run-unfit _ _ _ _ _ c.in-Not.ensures
+    ∙ run-unfit _ _ _ _ _ c.in-Err.ensures
 
 pub returns-else-budget-gt-LARGEST_BUDGET : goal.returns-else-budget-gt-LARGEST_BUDGET
 returns-else-budget-gt-LARGEST_BUDGET c =
-    let d = c.in-Top.ensures in
+    let d = c.in-Ok.ensures in
     c.cycles.ensures _ c.table-table.ensures ∙ run-cycles _ _ _ _ d.size c.if-budget-gt-LARGEST_BUDGET.false d.sound
