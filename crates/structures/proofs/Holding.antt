@@ -1,7 +1,7 @@
 -- What the order and the marks hold: with no cell met, with one more, and where a part of a walk has ended.
 use Rattle.paper.proofs.Kit.{ℕ, suc, ◌+◌, ◌<◌, ◌≡◌, sym, ap, ◌∙◌, subst, false, List, [], ◌∷◌, ⊎_elim, arith, add-one, le_of_suc-le-suc}
 use Rattle.paper.proofs.Kit.{eq-or-lt_of_le, length, set, get_or, length-set, length-replicate, get_or-set_same, get_or-set_other}
-use Rattle.std.specs.Prelude.{Result, Ok, Err}
+use Rattle.std.specs.Prelude.{Result, Ok}
 use Rattle.paper.specs.declared.Refusal.{Refusal}
 use Rattle.paper.specs.Limits.{largest_n}
 use Rattle.paper.specs.Cell.{is_free}
@@ -9,7 +9,7 @@ use Rattle.paper.specs.Act.{Act}
 use Rattle.cells.specs.Bridge.{cell_in}
 use Rattle.undo.specs.Did.{Always}
 use Rattle.structures.specs.Marks.{back, many_numbers, blank, Marked, Only, unmet, Ordered}
-use Rattle.structures.specs.Walks.{Gets, Clean, Holds, Ends, Lists}
+use Rattle.structures.specs.Walks.{Gets, InRange, Holds, Ends, Lists}
 use Rattle.structures.proofs.Marks.{back-set, marked-none, marked_more, not-met, marked-only, unmet-mark, unmet-blank}
 use Rattle.structures.proofs.Meeting.{New}
 
@@ -75,25 +75,21 @@ blank-wide m = ap length m ∙ length-replicate {A = ℕ} many_numbers 0
 pub only-blank : {marks : List ℕ} → marks ≡ blank → Only marks []
 only-blank m = subst (λ t. Only t []) (sym m) (marked-only marked-none)
 
-module _ {s order marks : List ℕ} where
-  pub clean-holds : Clean s order marks → Holds s order marks 0
-  clean-holds l = record {
+module _ {s marks : List ℕ} (l : InRange s) (u : marks ≡ blank) where
+  pub holds-none : {order : List ℕ} → length order ≡ largest_n → Holds s order marks 0
+  holds-none h = record {
     small = l.small;
-    wide = blank-wide l.unmarked;
-    ordered = ordered-none l.sized;
-    marked = subst (λ t. Marked t []) (sym l.unmarked) marked-none;
-    room = omega (arith, ap (unmet (length s)) l.unmarked, unmet-blank (length s) l.small);
+    wide = blank-wide u;
+    ordered = ordered-none h;
+    marked = subst (λ t. Marked t []) (sym u) marked-none;
+    room = omega (arith, ap (unmet (length s)) u, unmet-blank (length s) l.small);
   }
 
   -- there are more turns than cells
-  pub clean-turns : Clean s order marks → unmet (length s) marks < suc (length s)
-  clean-turns l = omega (arith, ap (unmet (length s)) l.unmarked, unmet-blank (length s) l.small)
+  pub more-turns : unmet (length s) marks < suc (length s)
+  more-turns = omega (arith, ap (unmet (length s)) u, unmet-blank (length s) l.small)
 
--- a part of a walk that has ended, or was refused: the whole walk, once its marks are taken away
+-- a part of a walk that has ended: the whole walk
 module _ {claim : ℕ → Result (List ℕ) Refusal → Type 0} {s m order marks : List ℕ} {M : Act (List ℕ)} where
-  pub ends-lists : {n : ℕ} {marks' : List ℕ} → Ends claim s m order marks (Ok n) → marks' ≡ blank → Gets Always M s (Ok (back n order))
-      → Lists M s order marks' (Ok n)
-  ends-lists l e d = let h = l.left.0 in record { says = d; listed = (omega (arith, h.room), h.ordered); unmarked = e }
-
-  pub ends-err : {e : Refusal} → Ends claim s m order marks (Err e) → Gets Always M s (Err e) → Lists M s order marks (Err e)
-  ends-err l d = record { says = d; listed = l.left.0; unmarked = l.left.1 }
+  pub ends-lists : {n : ℕ} → Ends claim s m order marks (Ok n) → Gets Always M s (Ok (back n order)) → Lists M s order (Ok n)
+  ends-lists l d = let h = l.left.0 in record { says = d; listed = (omega (arith, h.room), h.ordered) }

@@ -15,7 +15,7 @@ use Rattle.undo.specs.Did.{Always, Top, reading, lent}
 use Rattle.undo.proofs.Lines.{reads, meets_err, looks}
 use Rattle.structures.specs.declared.copies.Found.{Found}
 use Rattle.structures.specs.Marks.{back, Once, Ordered, Clears}
-use Rattle.structures.specs.Walks.{Gets, Clean}
+use Rattle.structures.specs.Walks.{Gets, InRange}
 use Rattle.structures.specs.Net.{free_all, copy_of, copy_into}
 use Rattle.structures.specs.Copies.{new_of, news_of, Run, Finds, AllNew, Leaves, Prepared, Prepares}
 use Rattle.structures.proofs.Marks.{back-less}
@@ -52,9 +52,9 @@ module _ (top n : ℕ) (order : List ℕ) {s l : List ℕ} where
   unfolding erase_back
   not-erased f = meets_err _ (alike (ap none_reserved (sym (reverse-reverse (take n order)))) f)
 
--- scratch that is as clean for as many cells
-pub clean-as : {s s' order marks : List ℕ} → length s' ≡ length s → Clean s order marks → Clean s' order marks
-clean-as e c = record { large = omega (arith, c.large); small = omega (arith, c.small); sized = c.sized; unmarked = c.unmarked }
+-- as many cells are as much in range
+pub range-as : {s s' : List ℕ} → length s' ≡ length s → InRange s → InRange s'
+range-as e c = record { large = omega (arith, c.large); small = omega (arith, c.small) }
 
 -- new cells are at hand
 module _ (order marks : List ℕ) (n : ℕ) (l : Clears order marks n) where
@@ -137,18 +137,16 @@ unfolding copy_of
 prepares-taken order marks n (Ok v) o few l t = prepared-taken order marks n l o few t
 prepares-taken order marks n {s} (Err e) o few l t = λ c. most (length s + 1) (omega arith) (bind_err _ t)
 
--- the cells are filled, and the table tells the name; or there is no copy
-module _ (c n : ℕ) (order : List ℕ) {s l : List ℕ} {y : List ℕ × List ℕ} (w : Gets Always (walk_back c) s (Ok (back n order))) where
-  pub copied-whole : (marks : List ℕ) {z : List ℕ × List ℕ} {v : ℕ} → Prepared order marks n (s, l) y
-      → Follows lent Always n (copy_all (new_of marks) (take n order) (news_of marks order n)) y z (Ok tt) → v ≡ new_of marks c
-      → Follows lent Always (length s + 1) (copy c) (s, l) z (Ok v)
-  unfolding copy copy_of
-  copied-whole marks {z} t d e =
-      subst (λ v. Follows lent Always (length s + 1) (copy c) (s, l) z (Ok v)) (sym e)
-      (most (length s + 1) (omega (arith, t.fits))
-      (reads _ w (alike (ap (copy_of c) (sym (reverse-reverse (take n order)))) (t.on c n z d))))
+-- the cells are filled, and the table tells the name
+pub copied-met : (c n : ℕ) (order marks : List ℕ) {s l : List ℕ} {y z : List ℕ × List ℕ} {v : ℕ} → Prepared order marks n (s, l) y
+    → Follows lent Always n (copy_all (new_of marks) (take n order) (news_of marks order n)) y z (Ok tt) → v ≡ new_of marks c
+    → Follows lent Always (length s + 1) (copy_of c (take n order)) (s, l) z (Ok v)
+copied-met c n order marks {s} {l} {z = z} t d e =
+    subst (λ v. Follows lent Always (length s + 1) (copy_of c (take n order)) (s, l) z (Ok v)) (sym e)
+    (most (length s + 1) (omega (arith, t.fits)) (t.on c n z d))
 
-  pub not-copied : {e : Refusal} → Follows lent Always (length s + 1) (copy_of c (take n order)) (s, l) y (Err e)
-      → Follows lent Always (length s + 1) (copy c) (s, l) y (Err e)
-  unfolding copy copy_of
-  not-copied t = reads _ w (alike (ap (copy_of c) (sym (reverse-reverse (take n order)))) t)
+-- what was walked is copied
+pub copied-whole : (c n : ℕ) (order : List ℕ) {s l : List ℕ} {z : List ℕ × List ℕ} {r : Result ℕ Refusal} → Gets Always (walk_back c) s (Ok (back n order))
+    → Follows lent Always (length s + 1) (copy_of c (take n order)) (s, l) z r → Follows lent Always (length s + 1) (copy c) (s, l) z r
+unfolding copy copy_of
+copied-whole c n order w d = reads _ w (alike (ap (copy_of c) (sym (reverse-reverse (take n order)))) d)

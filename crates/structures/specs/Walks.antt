@@ -19,12 +19,10 @@ Gets K M s r = Follows reading K 0 M s s r
 abbrev pub trail : List ℕ → List ℕ → Trail
 trail cs heads = record { met = cs; entered = heads }
 
--- the scratch that a walk is lent: no cell is marked; and N is in range
-pub record Clean (s order marks : List ℕ) : Type 0 where
+-- N is in range
+pub record InRange (s : List ℕ) : Type 0 where
   pub large : smallest_n ≤ length s
   pub small : length s ≤ largest_n
-  pub sized : length order ≡ largest_n
-  pub unmarked : marks ≡ blank
 
 -- in a walk: the first n of the order are marked, and there is room for the rest
 pub record Holds (s order marks : List ℕ) (n : ℕ) : Type 0 where
@@ -37,7 +35,7 @@ pub record Holds (s order marks : List ℕ) (n : ℕ) : Type 0 where
 -- a walk that has ended leaves its marks, and z cells or fewer without; a refusal takes all marks away
 abbrev pub Left : List ℕ → List ℕ → List ℕ → ℕ → Result ℕ Refusal → Type 0
 Left s order marks z (Ok n) = Holds s order marks n × (unmet (length s) marks ≤ z)
-Left s order marks z (Err e) = (length order ≡ largest_n) × (marks ≡ blank)
+Left s order marks z (Err e) = marks ≡ blank
 
 -- after the cells of `seen`, M comes to the cells that r tells, or is refused: whatever heads were entered before, they decide nothing
 pub record Visits (M : Trail → Act Trail) (s seen : List ℕ) (r : Result (List ℕ) Refusal) : Type 0 where
@@ -96,12 +94,11 @@ list_of w = cond (eqb (q_of w) 2) (symb_of w) 0
 unfoldable pub sublist : ℕ → ℕ → ℕ → Trail → Act Trail
 sublist depth c f t = if_then (eqb c 0) (ret t) (enter f (suc depth) c t)
 
--- a walk: its cells are in the order, and no cell is marked
+-- a walk: its cells are in the order
 abbrev pub Listed : List ℕ → List ℕ → Result ℕ Refusal → Type 0
 Listed s order (Ok n) = (n ≤ length s) × Ordered s order n
-Listed s order (Err e) = length order ≡ largest_n
+Listed s order (Err e) = Unit {0}
 
-pub record Lists (block : Act (List ℕ)) (s order marks : List ℕ) (r : Result ℕ Refusal) : Type 0 where
+pub record Lists (block : Act (List ℕ)) (s order : List ℕ) (r : Result ℕ Refusal) : Type 0 where
   pub says : Gets Always block s (met_in order r)
   pub listed : Listed s order r
-  pub unmarked : marks ≡ blank

@@ -1,24 +1,22 @@
 // J71's chain: words along the LINKs, 31 at a repeat; or a data term alone.
-ghost use Rattle.std.specs.Prelude.{◌≡◌, true, [], length};
-ghost use Rattle.paper.specs.Limits.{largest_n};
+ghost use Rattle.std.specs.Prelude.{◌≡◌, true, []};
 ghost use Rattle.paper.specs.Walk.{chain, chain_back};
 ghost use Rattle.cells.specs.Layout.{unpack_of};
 ghost use Rattle.undo.specs.Did.{Always};
-ghost use Rattle.structures.specs.Marks.{many_numbers};
-ghost use Rattle.structures.specs.Walks.{Gets, Clean, Holds, FineLink, Chains, Ends, Lists};
+ghost use Rattle.structures.specs.Walks.{Gets, InRange, Holds, FineLink, Chains, Ends, Lists};
 
-use crate::{Marks, Order, scratch};
+use crate::scratch::{Scratch, clear, enlist, mark_at};
+use crate::{Marks, Order};
 use paper::{Refusal, limits};
 
 // Whether the cell c, which holds x, may come next: a word that is no cell of the machine's own and has not been met.
 fn fine(marks: &Marks, c: u16, x: u64) -> bool
-    requires { length marks.now ≡ many_numbers }
     ensures { result ≡ true → FineLink marks.now c (unpack_of x) }
 {
     if c <= limits::H2 {
         return false;
     }
-    if scratch::mark_at(marks, c) != 0 {
+    if mark_at(marks, c) != 0 {
         return false;
     }
     cells::is_word(x)
@@ -26,17 +24,15 @@ fn fine(marks: &Marks, c: u16, x: u64) -> bool
 
 // Why a cell may not come next: its checks in order.
 fn refused(cells: &[u64], marks: &Marks, c: u16) -> Result<u64, Refusal>
-    requires { length marks.now ≡ many_numbers }
     ensures { Chains cells.now marks.now c result }
 {
     let w = acts::named(cells, c)?;
-    undo::refuse_if(scratch::mark_at(marks, c) != 0, Refusal::BadWalk(c))?;
+    undo::refuse_if(mark_at(marks, c) != 0, Refusal::BadWalk(c))?;
     Ok(w)
 }
 
 // The cell that comes next.
 fn arrive(cells: &[u64], marks: &Marks, c: u16) -> Result<u64, Refusal>
-    requires { length marks.now ≡ many_numbers }
     ensures { Chains cells.now marks.now c result }
 {
     let x = cells::peek(cells, c);
@@ -62,11 +58,11 @@ fn chain_links(
         let w = match arrive(cells, marks, c) {
             Ok(w) => w,
             Err(e) => {
-                scratch::clear(order, marks, n);
+                clear(order, marks, n);
                 return Err(e);
             }
         };
-        scratch::enlist(order, marks, n, c);
+        enlist(order, marks, n, c);
         n += 1;
         c = (w % 65536) as u16;
         if c == 0 {
@@ -75,21 +71,16 @@ fn chain_links(
     }
 }
 
-pub(crate) fn chain(
-    cells: &[u64],
-    order: &mut Order,
-    marks: &mut Marks,
-    c: u16,
-) -> Result<usize, Refusal>
-    requires { Clean cells.now order.old marks.old }
-    ensures { Lists (chain_back c) cells.now order.new marks.new result }
+pub(crate) fn chain(cells: &[u64], scratch: &mut Scratch, c: u16) -> Result<usize, Refusal>
+    requires { InRange cells.now }
+    ensures { Lists (chain_back c) cells.now scratch.new.order result }
 {
     let x = acts::touch(cells, c)?;
     if cells::is_term(x) {
-        order[0] = c;
+        scratch.order[0] = c;
         return Ok(1);
     }
-    let met = chain_links(cells, order, marks, c)?;
-    scratch::clear(order, marks, met);
+    let met = chain_links(cells, &mut scratch.order, &mut scratch.marks, c)?;
+    clear(&scratch.order, &mut scratch.marks, met);
     Ok(met)
 }

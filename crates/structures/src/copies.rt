@@ -7,11 +7,13 @@ ghost use Rattle.cells.specs.Pack.{Packs};
 ghost use Rattle.steps.specs.Follows.{seen_as};
 ghost use Rattle.undo.specs.Log.{Room};
 ghost use Rattle.undo.specs.Did.{Always, Did};
-ghost use Rattle.structures.specs.Marks.{many_numbers, Ordered, Clears};
-ghost use Rattle.structures.specs.Walks.{Clean};
+ghost use Rattle.structures.specs.Marks.{blank, Ordered, Clears};
+ghost use Rattle.structures.specs.Net.{copy_of};
+ghost use Rattle.structures.specs.Walks.{InRange};
 ghost use Rattle.structures.specs.Copies.{new_of, news_of, Begins, Finds, AllNew, Leaves, Prepares};
 
-use crate::{Marks, Order, scratch, walks};
+use crate::scratch::{Scratch, clear, mark_at};
+use crate::{Marks, Order, walks};
 use cells::Cell;
 use paper::{Refusal, limits};
 
@@ -42,10 +44,10 @@ fn find(cells: &[u64], order: &Order, marks: &mut Marks, n: usize) -> Found
 
 // Whether c is one of the new cells of the first n of the order.
 fn among(order: &Order, marks: &Marks, n: usize, c: u16) -> bool
-    requires { (n ≤ largest_n) × (length order.now ≡ largest_n) × (length marks.now ≡ many_numbers) }
+    requires { n ≤ largest_n }
     ensures { result ≡ false → member c (news_of marks.now order.now n) ≡ false }
 {
-    order[..n].iter().any(|o| scratch::mark_at(marks, *o) == c)
+    order[..n].iter().any(|o| mark_at(marks, *o) == c)
 }
 
 // Whether n cells were found, none of them twice: as each leads to one other, the last would be one of them again.
@@ -56,7 +58,7 @@ fn all_new(order: &Order, marks: &Marks, found: usize, n: usize) -> bool
     if found != n || n == 0 {
         return false;
     }
-    let last = scratch::mark_at(marks, order[n - 1]);
+    let last = mark_at(marks, order[n - 1]);
     !among(order, marks, n - 1, last)
 }
 
@@ -77,7 +79,7 @@ fn take_all(
         match acts::take_as(cells, log, cells::EMPTY) {
             Ok(c) => marks[order[i] as usize] = c,
             Err(e) => {
-                scratch::clear(order, marks, i);
+                clear(order, marks, i);
                 return Err(e);
             }
         }
@@ -105,24 +107,22 @@ fn prepare(
         undo::put(cells, log, limits::H2, cells::with_link(h, f.next));
         return Ok(());
     }
-    scratch::clear(order, marks, f.n);
+    clear(order, marks, f.n);
     take_all(cells, log, order, marks, n)
 }
 
 // A local name is given anew.
 fn new_symb(marks: &Marks, q: u8, symb: u16) -> u16
-    requires { length marks.now ≡ many_numbers }
     ensures { result ≡ cond (eqb q 2) (new_of marks.now symb) symb }
 {
     if q == 2 {
-        return scratch::mark_at(marks, symb);
+        return mark_at(marks, symb);
     }
     symb
 }
 
 // What the copy of a cell holds, by the new cells in the marks.
 fn copied(marks: &Marks, x: u64) -> u64
-    requires { length marks.now ≡ many_numbers }
     ensures { Packs result (copied (new_of marks.now) (unpack_of x)) }
 {
     let c = cells::unpack(x);
@@ -131,7 +131,7 @@ fn copied(marks: &Marks, x: u64) -> u64
             w.p,
             w.q,
             new_symb(marks, w.q, w.symb),
-            scratch::mark_at(marks, w.link),
+            mark_at(marks, w.link),
         ),
         Cell::Free(l) => cells::of_free(l),
         Cell::Term(t) => cells::of_term(t),
@@ -147,26 +147,41 @@ fn copy_all(cells: &mut [u64], log: &mut [u64], order: &Order, marks: &Marks, n:
 {
     for o in &order[..n] {
         let y = copied(marks, cells::peek(cells, *o));
-        undo::put(cells, log, scratch::mark_at(marks, *o), y);
+        undo::put(cells, log, mark_at(marks, *o), y);
     }
+}
+
+// A copy of the first n cells of the order: the new cell of c.
+fn copy_met(
+    cells: &mut [u64],
+    log: &mut [u64],
+    order: &Order,
+    marks: &mut Marks,
+    n: usize,
+    c: u16,
+) -> Result<u16, Refusal>
+    requires { Ordered cells.old order.now n × Begins order.now marks.old n
+        × Room log.old (length cells.old + 1) × (n ≤ length cells.old) }
+    ensures did { Did Always (length cells.old + 1) (copy_of c (take n order.now)) cells log result }
+    ensures unmarked { marks.new ≡ blank }
+{
+    prepare(cells, log, order, marks, n)?;
+    copy_all(cells, log, order, marks, n);
+    let name = mark_at(marks, c);
+    clear(order, marks, n);
+    Ok(name)
 }
 
 // The copy of the structure at c: the cell that names it.
 pub(crate) fn copy(
     cells: &mut [u64],
     log: &mut [u64],
-    order: &mut Order,
-    marks: &mut Marks,
+    scratch: &mut Scratch,
     c: u16,
 ) -> Result<u16, Refusal>
-    requires { Clean cells.old order.old marks.old × Room log.old (length cells.old + 1) }
-    ensures did { Did Always (length cells.old + 1) (copy c) cells log result }
-    ensures clean { Clean cells.new order.new marks.new }
+    requires { InRange cells.old × Room log.old (length cells.old + 1) }
+    ensures { Did Always (length cells.old + 1) (copy c) cells log result }
 {
-    let n = walks::walk(cells, order, marks, c)?;
-    prepare(cells, log, order, marks, n)?;
-    copy_all(cells, log, order, marks, n);
-    let name = scratch::mark_at(marks, c);
-    scratch::clear(order, marks, n);
-    Ok(name)
+    let n = walks::walk(cells, scratch, c)?;
+    copy_met(cells, log, &scratch.order, &mut scratch.marks, n, c)
 }

@@ -1,18 +1,18 @@
 // Freeing the cells of a walk or a chain, the last met first.
-ghost use Rattle.std.specs.Prelude.{◌≡◌, List, ℕ, ◌≤◌, length, take, Ok};
+ghost use Rattle.std.specs.Prelude.{List, ℕ, ◌≤◌, length, take, Ok};
 ghost use Rattle.paper.specs.Limits.{smallest_n, largest_n, first_deck};
 ghost use Rattle.paper.specs.Walk.{none_reserved, release_all, erase_back, erase};
 ghost use Rattle.undo.specs.Log.{Room};
 ghost use Rattle.undo.specs.Did.{Always, Top, Suits, Did};
 ghost use Rattle.structures.specs.Marks.{back};
-ghost use Rattle.structures.specs.Walks.{Clean, Gets};
+ghost use Rattle.structures.specs.Walks.{InRange, Gets};
 
-use crate::{Marks, Order, walks};
+use crate::{Order, Scratch, walks};
 use paper::{Refusal, limits};
 
 // 24 at the first reserved cell among the first n of the order.
 fn none_reserved(order: &Order, n: usize, top: u16) -> Result<(), Refusal>
-    requires { (n ≤ largest_n) × (length order.now ≡ largest_n) × (first_deck ≤ top) }
+    requires { (n ≤ largest_n) × (first_deck ≤ top) }
     ensures { (s : List ℕ) → Gets (Top top) (none_reserved (take n order.now)) s result }
 {
     for c in &order[..n] {
@@ -23,7 +23,7 @@ fn none_reserved(order: &Order, n: usize, top: u16) -> Result<(), Refusal>
 
 // The first n cells of the order are freed, the last first: each is linked to the one freed before it, and H2 to the last.
 fn release_all(cells: &mut [u64], log: &mut [u64], order: &Order, n: usize)
-    requires { (n ≤ largest_n) × (length order.now ≡ largest_n) × (smallest_n ≤ length cells.old) × Room log.old n }
+    requires { (n ≤ largest_n) × (smallest_n ≤ length cells.old) × Room log.old n }
     ensures { Did Always n (release_all (back n order.now)) cells log (Ok tt) }
 {
     if n == 0 {
@@ -47,7 +47,7 @@ pub(crate) fn erase_back(
     n: usize,
     top: u16,
 ) -> Result<(), Refusal>
-    requires { (n ≤ largest_n) × (length order.now ≡ largest_n) × (smallest_n ≤ length cells.old) × Suits log.old n top }
+    requires { (n ≤ largest_n) × (smallest_n ≤ length cells.old) × Suits log.old n top }
     ensures { Did (Top top) n (erase_back (back n order.now)) cells log result }
 {
     none_reserved(order, n, top)?;
@@ -59,15 +59,13 @@ pub(crate) fn erase_back(
 pub(crate) fn erase(
     cells: &mut [u64],
     log: &mut [u64],
-    order: &mut Order,
-    marks: &mut Marks,
+    scratch: &mut Scratch,
     top: u16,
     c: u16,
 ) -> Result<(), Refusal>
-    requires { Clean cells.old order.old marks.old × Suits log.old (length cells.old) top }
-    ensures did { Did (Top top) (length cells.old) (erase c) cells log result }
-    ensures clean { Clean cells.new order.new marks.new }
+    requires { InRange cells.old × Suits log.old (length cells.old) top }
+    ensures { Did (Top top) (length cells.old) (erase c) cells log result }
 {
-    let n = walks::walk(cells, order, marks, c)?;
-    erase_back(cells, log, order, n, top)
+    let n = walks::walk(cells, scratch, c)?;
+    erase_back(cells, log, &scratch.order, n, top)
 }

@@ -1,13 +1,38 @@
 // Marks show a repeat at once. They are taken away by going over the cells met, so that the next walk finds none.
-ghost use Rattle.std.specs.Prelude.{◌≡◌, ◌<◌, length, get_or, set};
+ghost use Rattle.std.specs.Prelude.{◌≡◌, ◌<◌, ◌≤◌, get_or, set, take};
 ghost use Rattle.paper.specs.Limits.{largest_n};
-ghost use Rattle.structures.specs.Marks.{many_numbers, blank, Clears};
+ghost use Rattle.structures.specs.Marks.{blank, Clears};
 
-use crate::{Marks, Order};
+use crate::{MANY_NUMBERS, Marks, Order};
+use paper::limits;
+
+// What a walk is lent: an order for the cells that it meets, and marks. No cell is marked but while a walk or a copy goes on.
+#[derive(Drop)]
+pub struct Scratch {
+    pub(crate) order: Order,
+    pub(crate) marks: Marks,
+    ghost unmarked: { marks ≡ blank },
+}
+
+impl Scratch {
+    pub fn new() -> Self {
+        Scratch {
+            order: [undo::UNREAD; limits::LARGEST_N],
+            marks: [0; MANY_NUMBERS],
+        }
+    }
+
+    // The cells that a walk has met, in walk order, where it answered n.
+    pub fn met(&self, n: usize) -> &[u16]
+        requires { n ≤ largest_n }
+        ensures { result.now ≡ take n self.now.order }
+    {
+        &self.order[..n]
+    }
+}
 
 // What is marked at c. There is a mark for every number, so no bound is asked for.
 pub(crate) fn mark_at(marks: &Marks, c: u16) -> u16
-    requires { length marks.now ≡ many_numbers }
     ensures { result ≡ get_or marks.now c 0 }
 {
     marks[c as usize]
@@ -15,7 +40,7 @@ pub(crate) fn mark_at(marks: &Marks, c: u16) -> u16
 
 // Cell c comes next in the order, and is marked.
 pub(crate) fn enlist(order: &mut Order, marks: &mut Marks, n: usize, c: u16)
-    requires { (n < largest_n) × (length marks.old ≡ many_numbers) }
+    requires { n < largest_n }
     ensures { (order.new ≡ set order.old n c) × (marks.new ≡ set marks.old c 1) }
 {
     order[n] = c;

@@ -1,24 +1,24 @@
 // The walk: from a head along the LINKs, and after each cell the list that it names.
-ghost use Rattle.std.specs.Prelude.{◌≡◌, true, ◌&&◌, not, ◌+◌, ◌≤◌, length, ltb};
-ghost use Rattle.paper.specs.Limits.{largest_n, deepest};
+ghost use Rattle.std.specs.Prelude.{◌≡◌, true, ◌&&◌, not, ◌+◌, ◌≤◌, ltb};
+ghost use Rattle.paper.specs.Limits.{deepest};
 ghost use Rattle.paper.specs.Cell.{is_word};
 ghost use Rattle.paper.specs.Walk.{enter, walk_back};
 ghost use Rattle.cells.specs.Layout.{unpack_of};
-ghost use Rattle.structures.specs.Marks.{back, many_numbers};
-ghost use Rattle.structures.specs.Walks.{Clean, Holds, Fine, Arrives, Visits, Ends, list_of, sublist, Lists};
+ghost use Rattle.structures.specs.Marks.{back};
+ghost use Rattle.structures.specs.Walks.{InRange, Holds, Fine, Arrives, Visits, Ends, list_of, sublist, Lists};
 
-use crate::{Marks, Order, scratch};
+use crate::scratch::{Scratch, clear, enlist, mark_at};
+use crate::{Marks, Order};
 use paper::{Refusal, Symbol, limits};
 
 // Whether the cell c, which holds x, may come next: three looks where a LINK led to it.
 fn fine(marks: &Marks, linked: bool, depth: usize, c: u16, x: u64) -> bool
-    requires { length marks.now ≡ many_numbers }
     ensures { result ≡ true → Fine marks.now linked depth c (unpack_of x) }
 {
     if c < limits::FIRST_DECK {
         return false;
     }
-    if scratch::mark_at(marks, c) != 0 {
+    if mark_at(marks, c) != 0 {
         return false;
     }
     if linked {
@@ -46,20 +46,18 @@ fn too_deep(linked: bool, depth: usize) -> bool
 
 // Why a cell may not come next: its checks in order.
 fn refused(cells: &[u64], marks: &Marks, linked: bool, depth: usize, c: u16) -> Result<u64, Refusal>
-    requires { length marks.now ≡ many_numbers }
     ensures { Arrives cells.now marks.now linked depth c result }
 {
     let x = acts::touch(cells, c)?;
     undo::refuse_if(acts::reserved(limits::FIRST_DECK, c), Refusal::BadWalk(c))?;
     undo::refuse_if(not_word(linked, x), Refusal::WrongKind(c))?;
-    undo::refuse_if(scratch::mark_at(marks, c) != 0, Refusal::BadWalk(c))?;
+    undo::refuse_if(mark_at(marks, c) != 0, Refusal::BadWalk(c))?;
     undo::refuse_if(too_deep(linked, depth), Refusal::BadWalk(c))?;
     Ok(x)
 }
 
 // The cell that comes next, reached by a LINK or as the head of a list at a depth.
 fn arrive(cells: &[u64], marks: &Marks, linked: bool, depth: usize, c: u16) -> Result<u64, Refusal>
-    requires { length marks.now ≡ many_numbers }
     ensures { Arrives cells.now marks.now linked depth c result }
 {
     let x = cells::peek(cells, c);
@@ -90,12 +88,12 @@ fn walk_links(
         let x = match arrive(cells, marks, linked, depth, c) {
             Ok(x) => x,
             Err(e) => {
-                scratch::clear(order, marks, n);
+                clear(order, marks, n);
                 return Err(e);
             }
         };
         let w = cells::word_in(x);
-        scratch::enlist(order, marks, n, c);
+        enlist(order, marks, n, c);
         n = enter_sublist(cells, order, marks, w, depth, n + 1)?;
         c = (w % 65536) as u16;
         if c == 0 {
@@ -130,11 +128,11 @@ fn enter_sublist(
 }
 
 // The walk of the structure at c.
-pub fn walk(cells: &[u64], order: &mut Order, marks: &mut Marks, c: u16) -> Result<usize, Refusal>
-    requires { Clean cells.now order.old marks.old }
-    ensures { Lists (walk_back c) cells.now order.new marks.new result }
+pub fn walk(cells: &[u64], scratch: &mut Scratch, c: u16) -> Result<usize, Refusal>
+    requires { InRange cells.now }
+    ensures { Lists (walk_back c) cells.now scratch.new.order result }
 {
-    let met = walk_links(cells, order, marks, c, 1, 0)?;
-    scratch::clear(order, marks, met);
+    let met = walk_links(cells, &mut scratch.order, &mut scratch.marks, c, 1, 0)?;
+    clear(&scratch.order, &mut scratch.marks, met);
     Ok(met)
 }

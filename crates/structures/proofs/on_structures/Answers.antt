@@ -5,18 +5,18 @@ use Rattle.steps.proofs.Listed.{entry_for, none_for}
 use Rattle.acts.proofs.Dispatch.{arm, unlisted}
 use Rattle.structures.proofs.on_structures.Goals as goal
 
-pub returns-in-71-clause-did : goal.returns-in-71-clause-did
+pub returns-in-71 : goal.returns-in-71
 unfolding entry_for listed
-returns-in-71-clause-did c = let p = c.j71.ensures in arm 71 _ p.did (λ e h. h) (omega arith) refl (omega arith)
+returns-in-71 c = let p = c.j71.ensures in arm 71 _ p (λ e h. h) (omega arith) refl (omega arith)
 
-pub returns-in-72-clause-did : goal.returns-in-72-clause-did
+pub returns-in-72 : goal.returns-in-72
 unfolding entry_for listed
-returns-in-72-clause-did c = let p = c.j72.ensures in arm 72 _ p.did (λ e h. h) (omega arith) refl (omega arith)
+returns-in-72 c = let p = c.j72.ensures in arm 72 _ p (λ e h. h) (omega arith) refl (omega arith)
 
-pub returns-in-74-clause-did : goal.returns-in-74-clause-did
+pub returns-in-74 : goal.returns-in-74
 unfolding entry_for listed
-returns-in-74-clause-did c = let p = c.j74.ensures in arm 74 _ p.did (λ e h. h) (omega arith) refl (omega arith)
+returns-in-74 c = let p = c.j74.ensures in arm 74 _ p (λ e h. h) (omega arith) refl (omega arith)
 
-pub returns-in_default-clause-did : goal.returns-in_default-clause-did
+pub returns-in_default : goal.returns-in_default
 unfolding none_for listed member
-returns-in_default-clause-did c = unlisted 71 74 _ (71 ∷ 72 ∷ 74 ∷ []) refl (omega arith) (omega arith) (search rules)
+returns-in_default c = unlisted 71 74 _ (71 ∷ 72 ∷ 74 ∷ []) refl (omega arith) (omega arith) (search rules)

@@ -24,14 +24,14 @@ returns-in-Err c =
     let l = c.loop-w in
     record {
       says = leads-end l.invariant.2 _ (λ k h. chain-refused _ _ k (c.in-Err.ensures _ l.invariant.0.marked));
-      left = (l.invariant.0.ordered.sized, c.clear.ensures);
+      left = c.clear.ensures;
     }
 
 pub enlist-requires : goal.enlist-requires
 enlist-requires c =
     let i = c.loop-w.invariant.0 in
     let w = new _ _ i c.in-Ok.ensures in
-    (fits i _ w, i.wide)
+    fits i _ w
 
 pub returns-then-c-eq0 : goal.returns-then-c-eq0
 returns-then-c-eq0 c =

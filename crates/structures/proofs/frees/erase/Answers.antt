@@ -3,10 +3,10 @@ use Rattle.steps.proofs.Sequence.{any, most, same_err}
 use Rattle.undo.proofs.Lines.{reads, reads_err}
 use Rattle.structures.proofs.frees.erase.Goals as goal
 
-pub returns-in_err-n-clause-did : goal.returns-in_err-n-clause-did
+pub returns-in_err-n : goal.returns-in_err-n
 unfolding erase
-returns-in_err-n-clause-did c = let w = c.in_err-n.ensures in rw (same_err c.from_residual.ensures.1) (reads_err _ (any w.says))
+returns-in_err-n c = let w = c.in_err-n.ensures in rw (same_err c.from_residual.ensures.1) (reads_err _ (any w.says))
 
-pub returns-clause-did : goal.returns-clause-did
+pub returns : goal.returns
 unfolding erase
-returns-clause-did c = let w = c.in_ok-n.ensures in reads _ (any w.says) (most _ w.listed.0 c.erase_back.ensures)
+returns c = let w = c.in_ok-n.ensures in reads _ (any w.says) (most _ w.listed.0 c.erase_back.ensures)

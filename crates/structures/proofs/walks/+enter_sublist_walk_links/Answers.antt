@@ -60,14 +60,14 @@ walk_links-returns-in-Err t c =
     let l = c.loop-x in
     record {
       says = leads-end l.invariant.3 _ (λ k h. meet-refused _ _ _ _ k (c.in-Err.ensures _ l.invariant.0.marked));
-      left = (l.invariant.0.ordered.sized, c.clear.ensures);
+      left = c.clear.ensures;
     }
 
 pub walk_links-enlist-requires : goal.walk_links-enlist-requires
 walk_links-enlist-requires t c =
     let i = c.loop-x.invariant in
     let w = new _ _ _ _ i.0 c.in-Ok.ensures i.2 in
-    (fits i.0 _ w.0, i.0.wide)
+    fits i.0 _ w.0
 
 pub walk_links-enter_sublist-requires : goal.walk_links-enter_sublist-requires
 walk_links-enter_sublist-requires t c =
