@@ -31,12 +31,12 @@ fn find(cells: &[u64], order: &Order, marks: &mut Marks, n: usize) -> Found
 {
     let h = acts::own(cells, limits::H2);
     let mut next = (h % 65536) as u16;
-    for i in 0..n {
+    for (i, o) in order[..n].iter().enumerate() {
         let x = cells::peek(cells, next);
         if next == 0 || !cells::is_free(x) {
             return Found { n: i, next };
         }
-        marks[order[i] as usize] = next;
+        marks[*o as usize] = next;
         next = cells::free_link(x);
     }
     Found { n, next }
@@ -75,9 +75,9 @@ fn take_all(
         (seen_as (λ _. news_of marks.new order.now n) result) }
     ensures leaves { Leaves order.now marks.new n result }
 {
-    for i in 0..n {
+    for (i, o) in order[..n].iter().enumerate() {
         match acts::take_as(cells, log, cells::EMPTY) {
-            Ok(c) => marks[order[i] as usize] = c,
+            Ok(c) => marks[*o as usize] = c,
             Err(e) => {
                 clear(order, marks, i);
                 return Err(e);

@@ -1,4 +1,4 @@
-use Rattle.paper.proofs.Kit.{ℕ, List, ◌≡◌, ◌%◌, ◌≤◌, refl, sym, ◌∙◌, subst, arith, length, length-set}
+use Rattle.paper.proofs.Kit.{ℕ, List, ◌≡◌, ◌%◌, ◌≤◌, ◌<◌, refl, sym, ◌∙◌, subst, arith, length, length-set, length-take-le, get_or-take}
 use Rattle.paper.specs.Cell.{Word}
 use Rattle.paper.specs.Act.{own}
 use Rattle.cells.specs.Layout.{word_of}
@@ -37,11 +37,14 @@ loop-i-preserved c =
     let l = c.loop-i in
     let q = c.requires in
     let w : c.args.n ≤ length c.args.order.now = omega (arith, q.few, q.sized) in
-    let i = q.inside l.i (omega arith) in
-    let o = once-at c.args.order.now _ _ w c.loop-i-test.true q.once in
+    let u = length-take-le c.args.n c.args.order.now w in
+    let h : l.i < c.args.n = omega arith in
+    let i = q.inside l.i h in
+    let o = once-at c.args.order.now _ _ w h q.once in
     let s = c.args.cells.now in
     let x = c.own-h.result % 65536 in
-    let e = news-more l.marks c.args.order.now l.i l.next (omega arith) (omega (arith, l.invariant.0)) o in (
+    let e = news-more l.marks c.args.order.now l.i l.next (omega arith) (omega (arith, l.invariant.0)) o in
+    rw (get_or-take c.args.n c.args.order.now l.i 0 h) (
       simp length-set l.invariant.0,
       subst (Only _) (sym (back_more c.args.order.now l.i (omega arith))) (only-more _ _ l.invariant.1),
       subst (λ ns. Run (unpacked s) x ns c.free_link-next.result) (sym e)
@@ -53,6 +56,8 @@ loop-i-preserved c =
 pub returns : goal.returns
 returns c =
     let l = c.loop-i in
+    let q = c.requires in
+    let u = length-take-le c.args.n c.args.order.now (omega (arith, q.few, q.sized)) in
     let e : l.i ≡ c.args.n = omega arith in
     subst (λ i. Finds c.args.cells.now c.args.order.now l.marks c.args.n (record { n = i; next = l.next })) e
     (ends c.own-h.result c.requires c.own-h.ensures (omega arith) l.invariant)

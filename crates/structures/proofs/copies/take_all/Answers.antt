@@ -1,4 +1,4 @@
-use Rattle.paper.proofs.Kit.{◌≤◌, ◌≡◌, refl, sym, ap, subst, arith, length, length-set}
+use Rattle.paper.proofs.Kit.{◌≤◌, ◌<◌, ◌≡◌, refl, sym, ap, subst, arith, length, length-set, length-take-le, get_or-take}
 use Rattle.cells.specs.Layout.{unpack_of}
 use Rattle.structures.specs.Marks.{Only}
 use Rattle.structures.specs.Copies.{news_of}
@@ -23,6 +23,7 @@ returns-in-Err-clause-did c =
     let l = c.loop-i in
     let q = c.requires.0 in
     let w : c.args.n ≤ length c.args.order.now = omega (arith, q.few, q.sized) in
+    let u = length-take-le c.args.n c.args.order.now w in
     take-err _ _ _ (news_of l.marks c.args.order.now l.i) l.invariant.2 w (omega arith) c.in-Err.ensures
 
 pub loop-i-preserved : goal.loop-i-preserved
@@ -31,9 +32,11 @@ loop-i-preserved c =
     let l = c.loop-i in
     let q = c.requires.0 in
     let w : c.args.n ≤ length c.args.order.now = omega (arith, q.few, q.sized) in
-    let h = c.loop-i-test.true in
-    let i = q.inside l.i (omega arith) in
-    let o = once-at c.args.order.now _ _ w h q.once in (
+    let u = length-take-le c.args.n c.args.order.now w in
+    let h : l.i < c.args.n = omega arith in
+    let i = q.inside l.i h in
+    let o = once-at c.args.order.now _ _ w h q.once in
+    rw (get_or-take c.args.n c.args.order.now l.i 0 h) (
       simp length-set l.invariant.0,
       subst (Only _) (sym (back_more c.args.order.now l.i (omega arith))) (only-more _ _ l.invariant.1),
       take_more _ _ _ (news_of l.marks c.args.order.now l.i) l.invariant.2 w h c.in-Ok.ensures
@@ -45,6 +48,7 @@ returns-clause-did c =
     let l = c.loop-i in
     let q = c.requires.0 in
     let w : c.args.n ≤ length c.args.order.now = omega (arith, q.few, q.sized) in
+    let u = length-take-le c.args.n c.args.order.now w in
     let e : l.i ≡ c.args.n = omega arith in
     take-end _ _ _ (news_of l.marks c.args.order.now l.i) l.invariant.2 w (omega arith) (omega arith)
     (ap (news_of l.marks c.args.order.now) e)
