@@ -7,7 +7,7 @@ use Rattle.steps.specs.Follows.{seen_as}
 use Rattle.regions.specs.Lent.{Told}
 use Rattle.undo.specs.Log.{Room}
 use Rattle.undo.specs.Did.{Lent, Shown}
-use Rattle.structures.specs.Walks.{Clean}
+use Rattle.structures.specs.Walks.{InRange}
 use Rattle.printing.specs.Telling.{Printing}
 use Rattle.cycle.specs.Moves.{control_of}
 use Rattle.cycle.specs.declared.control.Operated.{Operated}
@@ -24,9 +24,9 @@ end_in r = seen_as (λ o. o.end) r
 abbrev pub control_in : Result Operated Refusal → Result Control Refusal
 control_in r = seen_as (λ o. control_of o.away) r
 
--- what a part is lent: a clean scratch, room for k writes, lines within the lent bytes, and a table
-pub record Lends (k : ℕ) (s l order marks table out : List ℕ) (at : ℕ) : Type 0 where
-  pub clean : Clean s order marks
+-- what a part is lent: cells in range, room for k writes, lines within the lent bytes, and a table
+pub record Lends (k : ℕ) (s l table out : List ℕ) (at : ℕ) : Type 0 where
+  pub range : InRange s
   pub room : Room l k
   pub within : at ≤ length out
   pub names : Told table

@@ -8,16 +8,16 @@ use Rattle.paper.specs.Run.{Turn, stops, continues, alone, after_cycle}
 use Rattle.cells.specs.Pack.{AllFormed}
 use Rattle.cells.specs.Bridge.{Rest, state_of}
 use Rattle.undo.specs.Log.{rewind_of}
-use Rattle.structures.specs.Walks.{Clean}
+use Rattle.structures.specs.Walks.{InRange}
 
 -- the state whose lines are the first `at` bytes, and whose room is what is left
 abbrev pub state_at : List Region → List ℕ → List ℕ → ℕ → State
 state_at rs s out at = state_of (record { regions = rs; lines = take at out; room = length out - at }) s
 
--- the scratch of a run: room in the log for every write of a cycle, and no cell marked
-pub record Ready (s log order marks : List ℕ) : Type 0 where
+-- a run may go on: room in the log for every write of a cycle, and N in range
+pub record Ready (s log : List ℕ) : Type 0 where
   pub room : 2 * (2 * length s + 41) + 4 < length log
-  pub clean : Clean s order marks
+  pub range : InRange s
 
 -- the cycle of a run from the state t: it sees only its own line
 abbrev pub cycled : State → Turn
@@ -29,9 +29,9 @@ Came rs s out at s' out' (Ok n) =
     (cycled (state_at rs s out at) ≡ continues (state_at rs s' out' n)) × (at ≤ n) × (n ≤ length out) × (drop n out' ≡ drop n out)
 Came rs s out at s' out' (Err e) = (cycled (state_at rs s out at) ≡ stops e) × (s' ≡ s) × (out' ≡ out)
 
-pub record Turns (rs : List Region) (s out : List ℕ) (at : ℕ) (s' out' log order marks : List ℕ) (r : Result ℕ Refusal) : Type 0 where
+pub record Turns (rs : List Region) (s out : List ℕ) (at : ℕ) (s' out' log : List ℕ) (r : Result ℕ Refusal) : Type 0 where
   pub came : Came rs s out at s' out' r
-  pub ready : Ready s' log order marks
+  pub ready : Ready s' log
   pub formed : AllFormed s → AllFormed s'
 
 -- the cells as `count` leaves them

@@ -12,7 +12,7 @@ ghost use Rattle.undo.specs.Log.{Room};
 ghost use Rattle.undo.specs.Did.{Top, Suits, Did};
 ghost use Rattle.acts.specs.GoesOn.{going_on};
 ghost use Rattle.regions.specs.Lent.{Tells, Told};
-ghost use Rattle.structures.specs.Walks.{Clean};
+ghost use Rattle.structures.specs.Walks.{InRange};
 ghost use Rattle.cycle.specs.Parts.{Lends, Steps, end_in, control_in};
 ghost use Rattle.cycle.specs.Turns.{Ready, Turns, Settles};
 
@@ -20,7 +20,7 @@ use control::Operated;
 use fetched::Fetched;
 use paper::{Refusal, Symbol, limits};
 use regions::Table;
-use structures::{Marks, Order};
+use structures::Scratch;
 
 mod control;
 mod fetched;
@@ -31,20 +31,18 @@ mod tally;
 fn by_family(
     cells: &mut [u64],
     log: &mut [u64],
-    order: &mut Order,
-    marks: &mut Marks,
+    scratch: &mut Scratch,
     top: u16,
     j: u16,
 ) -> Result<(), Refusal>
-    requires { Clean cells.old order.old marks.old × Suits log.old (length cells.old + 40) top
+    requires { InRange cells.old × Suits log.old (length cells.old + 40) top
         × (j ≢ 1) × (j ≢ 152) × (j ≢ 153) × (J j < 2 ^ 16) }
-    ensures did { Did (Top top) (length cells.old + 40) (perform j) cells log (going_on result) }
-    ensures clean { Clean cells.new order.new marks.new }
+    ensures { Did (Top top) (length cells.old + 40) (perform j) cells log (going_on result) }
 {
     match j {
         0..=59 => stacks::on_stacks(cells, log, top, j),
         60..=70 => lists::on_lists(cells, log, top, j),
-        71..=74 => structures::on_structures(cells, log, order, marks, top, j),
+        71..=74 => structures::on_structures(cells, log, scratch, top, j),
         75..=109 => lists::on_lists(cells, log, top, j),
         110..=129 => numbers::on_numbers(cells, log, top, j),
         130..=151 => stacks::on_tags(cells, log, top, j),
@@ -56,24 +54,22 @@ fn by_family(
 fn perform(
     cells: &mut [u64],
     log: &mut [u64],
-    order: &mut Order,
-    marks: &mut Marks,
+    scratch: &mut Scratch,
     table: &Table,
     out: &mut [u8],
     at: usize,
     j: u16,
 ) -> Result<usize, Refusal>
-    requires { Lends (length cells.old + 40) cells.old log.old order.old marks.old table.now out.old at
+    requires { Lends (length cells.old + 40) cells.old log.old table.now out.old at
         × (j ≢ 1) × (J j < 2 ^ 16) }
-    ensures steps { Steps (length cells.old + 40) (perform j) cells log table out at result (seen_as (λ _. and_then goes_on) result) }
-    ensures clean { Clean cells.new order.new marks.new }
+    ensures { Steps (length cells.old + 40) (perform j) cells log table out at result (seen_as (λ _. and_then goes_on) result) }
 {
     if 152 <= j {
         if j <= 153 {
             return printing::on_lines(cells, log, table, out, at, j);
         }
     }
-    by_family(cells, log, order, marks, top_of(table), j)?;
+    by_family(cells, log, scratch, top_of(table), j)?;
     Ok(at)
 }
 
@@ -96,23 +92,21 @@ fn process_number(c: u16) -> u16
 fn execute(
     cells: &mut [u64],
     log: &mut [u64],
-    order: &mut Order,
-    marks: &mut Marks,
+    scratch: &mut Scratch,
     table: &Table,
     out: &mut [u8],
     at: usize,
     x: Symbol,
 ) -> Result<Operated, Refusal>
-    requires { Lends (2 * length cells.old + 41) cells.old log.old order.old marks.old table.now out.old at }
-    ensures steps { Steps (2 * length cells.old + 41) (executes x) cells log table out at (end_in result) (control_in result) }
-    ensures clean { Clean cells.new order.new marks.new }
+    requires { Lends (2 * length cells.old + 41) cells.old log.old table.now out.old at }
+    ensures { Steps (2 * length cells.old + 41) (executes x) cells log table out at (end_in result) (control_in result) }
 {
     let y = past::past_j1(cells, log, top_of(table), x)?;
     let t = acts::touch(cells, y.num)?;
     acts::not_own(y.num)?;
     if cells::is_process(t) {
         let j = process_number(y.num);
-        let end = perform(cells, log, order, marks, table, out, at, j)?;
+        let end = perform(cells, log, scratch, table, out, at, j)?;
         return Ok(Operated {
             away: false,
             end: end,
@@ -129,21 +123,19 @@ fn execute(
 fn operate(
     cells: &mut [u64],
     log: &mut [u64],
-    order: &mut Order,
-    marks: &mut Marks,
+    scratch: &mut Scratch,
     table: &Table,
     out: &mut [u8],
     at: usize,
     f: Fetched,
 ) -> Result<Operated, Refusal>
-    requires { Lends (2 * length cells.old + 41) cells.old log.old order.old marks.old table.now out.old at }
-    ensures steps { Steps (2 * length cells.old + 41) (operate f.p f.x) cells log table out at (end_in result) (control_in result) }
-    ensures clean { Clean cells.new order.new marks.new }
+    requires { Lends (2 * length cells.old + 41) cells.old log.old table.now out.old at }
+    ensures { Steps (2 * length cells.old + 41) (operate f.p f.x) cells log table out at (end_in result) (control_in result) }
 {
     let p = f.p;
     let x = f.x;
     match p {
-        0 => execute(cells, log, order, marks, table, out, at, x),
+        0 => execute(cells, log, scratch, table, out, at, x),
         1..=6 => {
             control::on_symbol(cells, log, top_of(table), p, x)?;
             Ok(Operated {
@@ -165,20 +157,18 @@ fn operate(
 fn interpret(
     cells: &mut [u64],
     log: &mut [u64],
-    order: &mut Order,
-    marks: &mut Marks,
+    scratch: &mut Scratch,
     table: &Table,
     out: &mut [u8],
     at: usize,
     c: u16,
 ) -> Result<usize, Refusal>
-    requires { Lends (2 * length cells.old + 41) cells.old log.old order.old marks.old table.now out.old at }
-    ensures steps { Steps (2 * length cells.old + 41) (interpret c) cells log table out at result (seen_as (λ _. tt) result) }
-    ensures clean { Clean cells.new order.new marks.new }
+    requires { Lends (2 * length cells.old + 41) cells.old log.old table.now out.old at }
+    ensures { Steps (2 * length cells.old + 41) (interpret c) cells log table out at result (seen_as (λ _. tt) result) }
 {
     let top = top_of(table);
     let f = fetched::fetch(cells, top, c)?;
-    let r = operate(cells, log, order, marks, table, out, at, f)?;
+    let r = operate(cells, log, scratch, table, out, at, f)?;
     control::advance(cells, log, top, f.link, r.away);
     Ok(r.end)
 }
@@ -199,15 +189,14 @@ fn settle(cells: &mut [u64], log: &[u64], outcome: Result<usize, Refusal>) -> Re
 pub fn cycle(
     cells: &mut [u64],
     log: &mut [u64],
-    order: &mut Order,
-    marks: &mut Marks,
+    scratch: &mut Scratch,
     table: &Table,
     out: &mut [u8],
     at: usize,
 ) -> Result<usize, Refusal>
-    requires { Ready cells.old log.old order.old marks.old × (at ≤ length out.old) × Told table.now }
+    requires { Ready cells.old log.old × (at ≤ length out.old) × Told table.now }
     ensures { (rs : List Region) → Tells table.now rs → Turns rs cells.old out.old at
-        cells.new out.new log.new order.new marks.new result }
+        cells.new out.new log.new result }
 {
     undo::begin(cells, log);
     let h = acts::own(cells, limits::H1);
@@ -216,6 +205,6 @@ pub fn cycle(
         let outcome = control::ascend(cells, log, top_of(table)).and(Ok(at));
         return settle(cells, log, outcome);
     }
-    let outcome = interpret(cells, log, order, marks, table, out, at, c);
+    let outcome = interpret(cells, log, scratch, table, out, at, c);
     settle(cells, log, outcome)
 }

@@ -1,4 +1,3 @@
-use Rattle.structures.proofs.Whole.{clean-as}
 use Rattle.acts.proofs.Dispatch.{unlisted}
 use Rattle.steps.proofs.Sequence.{most}
 use Rattle.steps.proofs.Listed.{none_for}
@@ -8,44 +7,23 @@ use Rattle.paper.proofs.Kit.{arith, refl, []}
 use Rattle.cycle.proofs.by_family.Goals as goal
 
 pub returns-in-0-to-59 : goal.returns-in-0-to-59
-returns-in-0-to-59 c = record {
-  did = most _ (omega arith) c.on_stacks.ensures;
-  clean = clean-as c.on_stacks.auto.cells c.requires.0;
-}
+returns-in-0-to-59 c = (most _ (omega arith) c.on_stacks.ensures)
 
 pub returns-in-60-to-70 : goal.returns-in-60-to-70
-returns-in-60-to-70 c = record {
-  did = most _ (omega arith) c.on_lists.ensures;
-  clean = clean-as c.on_lists.auto.cells c.requires.0;
-}
+returns-in-60-to-70 c = (most _ (omega arith) c.on_lists.ensures)
 
 pub returns-in-71-to-74 : goal.returns-in-71-to-74
-returns-in-71-to-74 c = record {
-  did = most _ (omega arith) c.on_structures.ensures.did;
-  clean = c.on_structures.ensures.clean;
-}
+returns-in-71-to-74 c = (most _ (omega arith) c.on_structures.ensures)
 
 pub returns-in-75-to-109 : goal.returns-in-75-to-109
-returns-in-75-to-109 c = record {
-  did = most _ (omega arith) c.on_lists-in-75-to-109.ensures;
-  clean = clean-as c.on_lists-in-75-to-109.auto.cells c.requires.0;
-}
+returns-in-75-to-109 c = (most _ (omega arith) c.on_lists-in-75-to-109.ensures)
 
 pub returns-in-110-to-129 : goal.returns-in-110-to-129
-returns-in-110-to-129 c = record {
-  did = most _ (omega arith) c.on_numbers.ensures;
-  clean = clean-as c.on_numbers.auto.cells c.requires.0;
-}
+returns-in-110-to-129 c = (most _ (omega arith) c.on_numbers.ensures)
 
 pub returns-in-130-to-151 : goal.returns-in-130-to-151
-returns-in-130-to-151 c = record {
-  did = most _ (omega arith) c.on_tags.ensures;
-  clean = clean-as c.on_tags.auto.cells c.requires.0;
-}
+returns-in-130-to-151 c = (most _ (omega arith) c.on_tags.ensures)
 
 pub returns-in-152-to-65535 : goal.returns-in-152-to-65535
 unfolding none_for listed member
-returns-in-152-to-65535 c = record {
-  did = unlisted 154 65535 _ [] refl (omega arith) (omega (arith, c.ranges.j)) tt;
-  clean = c.requires.0;
-}
+returns-in-152-to-65535 c = (unlisted 154 65535 _ [] refl (omega arith) (omega (arith, c.ranges.j)) tt)

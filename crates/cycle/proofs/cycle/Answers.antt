@@ -1,6 +1,6 @@
 use Rattle.cycle.proofs.CycleLaws.{ascends, goes}
 use Rattle.cycle.proofs.TurnLaws.{came, stays-formed}
-use Rattle.structures.proofs.Whole.{clean-as}
+use Rattle.cycle.proofs.PartLaws.{in_range-as}
 use Rattle.paper.proofs.Kit.{◌∙◌, arith}
 use Rattle.cycle.proofs.cycle.Goals as goal
 
@@ -19,7 +19,7 @@ returns-then-c-eq0 c =
           c.ascend.auto.log,
           c.settle.auto.cells,
         );
-        clean = clean-as (c.settle.auto.cells ∙ c.ascend.auto.cells) (c.requires.0.clean);
+        range = in_range-as (c.settle.auto.cells ∙ c.ascend.auto.cells) c.requires.0.range;
       };
       formed = stays-formed rs w _ _ _ c.begin.ensures _ _ p c.settle.ensures;
     }
@@ -27,7 +27,7 @@ returns-then-c-eq0 c =
 pub interpret-outcome-requires : goal.interpret-outcome-requires
 interpret-outcome-requires c =
     record {
-      clean = c.requires.0.clean;
+      range = c.requires.0.range;
       room = record { fits = omega (arith, c.requires.0.room, c.begin.ensures.count, c.begin.auto) };
       within = c.requires.1;
       names = c.requires.2;
@@ -43,16 +43,16 @@ settle-requires-2 c = (
       c.begin.auto,
       c.interpret-outcome.auto.cells,
       c.interpret-outcome.auto.log,
-      (c.interpret-outcome.ensures.steps.follows _ (c.requires.2.tells)).kept.count,
+      (c.interpret-outcome.ensures.follows _ (c.requires.2.tells)).kept.count,
     );
   },
-  omega (arith, c.requires.0.clean.large, c.interpret-outcome.auto.cells),
+  omega (arith, c.requires.0.range.large, c.interpret-outcome.auto.cells),
 )
 
 pub returns : goal.returns
 returns c =
     λ rs w.
-    let p = goes _ c.own-h.ensures c.if-c-eq0.false c.interpret-outcome.ensures.steps in
+    let p = goes _ c.own-h.ensures c.if-c-eq0.false c.interpret-outcome.ensures in
     record {
       came = came rs w _ _ _ c.begin.ensures _ _ p _ c.settle-2.ensures;
       ready = record {
@@ -64,7 +64,7 @@ returns c =
           c.interpret-outcome.auto.log,
           c.settle-2.auto.cells,
         );
-        clean = clean-as (c.settle-2.auto.cells) (c.interpret-outcome.ensures.clean);
+        range = in_range-as (c.settle-2.auto.cells ∙ c.interpret-outcome.auto.cells) c.requires.0.range;
       };
       formed = stays-formed rs w _ _ _ c.begin.ensures _ _ p c.settle-2.ensures;
     }

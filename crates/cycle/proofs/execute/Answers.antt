@@ -1,7 +1,6 @@
 use Rattle.cycle.specs.Reaches.{Past}
 use Rattle.cycle.proofs.ExecuteLaws.{untouched, is_own, performed, descended, not-one}
-use Rattle.cycle.proofs.PartLaws.{part-quiet}
-use Rattle.structures.proofs.Whole.{clean-as}
+use Rattle.cycle.proofs.PartLaws.{part-quiet, in_range-as}
 use Rattle.steps.proofs.Sequence.{same_err, most}
 use Rattle.paper.proofs.Kit.{refl, sym, ◌∙◌, arith}
 use Rattle.std.specs.Prelude.{Ok, Err}
@@ -10,20 +9,14 @@ use Rattle.cycle.proofs.execute.Goals as goal
 pub returns-in_err-y : goal.returns-in_err-y
 unfolding Past
 returns-in_err-y c =
-    rw (same_err c.from_residual.ensures.1) record {
-      steps = part-quiet _ _ _ c.requires.within (Err _) refl c.top_of.ensures.0 (most _ (omega arith) c.in_err-y.ensures);
-      clean = clean-as c.past_j1.auto.cells c.requires.clean;
-    }
+    rw (same_err c.from_residual.ensures.1) (part-quiet _ _ _ c.requires.within (Err _) refl c.top_of.ensures.0 (most _ (omega arith) c.in_err-y.ensures))
 
 pub returns-in_err-t : goal.returns-in_err-t
 unfolding Past
 returns-in_err-t c =
     let p = c.in_ok-y.ensures in
     let e = c.in_err-t.ensures in
-    rw (same_err c.from_residual-in_err-t.ensures.1) record {
-      steps = untouched _ c.top_of.ensures.0 p _ _ _ c.requires.within (omega arith) e;
-      clean = clean-as c.past_j1.auto.cells c.requires.clean;
-    }
+    rw (same_err c.from_residual-in_err-t.ensures.1) (untouched _ c.top_of.ensures.0 p _ _ _ c.requires.within (omega arith) e)
 
 pub returns-in_err-not_own : goal.returns-in_err-not_own
 unfolding Past
@@ -31,10 +24,7 @@ returns-in_err-not_own c =
     let p = c.in_ok-y.ensures in
     let m = c.in_ok-t.ensures in
     let e = c.in_err-not_own.ensures in
-    rw (same_err c.from_residual-in_err-not_own.ensures.1) record {
-      steps = is_own _ c.top_of.ensures.0 p _ _ _ c.requires.within (omega arith) m e;
-      clean = clean-as c.past_j1.auto.cells c.requires.clean;
-    }
+    rw (same_err c.from_residual-in_err-not_own.ensures.1) (is_own _ c.top_of.ensures.0 p _ _ _ c.requires.within (omega arith) m e)
 
 pub perform-requires : goal.perform-requires
 unfolding Past
@@ -42,7 +32,7 @@ perform-requires c =
     let p = c.in_ok-y.ensures in
     let m = c.in_ok-t.ensures in (
       record {
-        clean = clean-as c.past_j1.auto.cells c.requires.clean;
+        range = in_range-as c.past_j1.auto.cells c.requires.range;
         room = record { fits = omega (arith, c.past_j1.auto.cells, c.past_j1.auto.log, p.reaches.kept.count, c.requires.room.fits) };
         within = c.requires.within;
         names = c.requires.names;
@@ -59,11 +49,8 @@ returns-in_err-end c =
     let m = c.in_ok-t.ensures in
     let own = c.in_ok-not_own.ensures in
     let f = c.in_err-end.ensures in
-    rw (same_err c.from_residual-in_err-end.ensures.1) record {
-      steps = performed _ c.top_of.ensures.0 p m own _ _ (Err _) (omega (arith, c.past_j1.auto.cells))
-          (sym c.is_process.ensures ∙ c.if-is_process.true) c.process_number-j.ensures.0 f.steps;
-      clean = f.clean;
-    }
+    rw (same_err c.from_residual-in_err-end.ensures.1) (performed _ c.top_of.ensures.0 p m own _ _ (Err _) (omega (arith, c.past_j1.auto.cells))
+    (sym c.is_process.ensures ∙ c.if-is_process.true) c.process_number-j.ensures.0 f)
 
 pub returns-then-is_process : goal.returns-then-is_process
 unfolding Past
@@ -72,11 +59,8 @@ returns-then-is_process c =
     let m = c.in_ok-t.ensures in
     let own = c.in_ok-not_own.ensures in
     let f = c.in_ok-end.ensures in
-    record {
-      steps = performed _ c.top_of.ensures.0 p m own _ _ (Ok _) (omega (arith, c.past_j1.auto.cells))
-          (sym c.is_process.ensures ∙ c.if-is_process.true) c.process_number-j.ensures.0 f.steps;
-      clean = f.clean;
-    }
+    (performed _ c.top_of.ensures.0 p m own _ _ (Ok _) (omega (arith, c.past_j1.auto.cells))
+    (sym c.is_process.ensures ∙ c.if-is_process.true) c.process_number-j.ensures.0 f)
 
 pub descend-requires : goal.descend-requires
 unfolding Past
@@ -91,10 +75,7 @@ returns-in_err-descend c =
     let m = c.in_ok-t.ensures in
     let own = c.in_ok-not_own.ensures in
     let e = c.in_err-descend.ensures in
-    rw (same_err c.from_residual-in_err-descend.ensures.1) record {
-      steps = descended _ c.top_of.ensures.0 p m own _ _ _ c.requires.within (omega arith) (sym c.is_process.ensures ∙ c.if-is_process.false) (Err _) refl e;
-      clean = clean-as (c.descend.auto.cells ∙ c.past_j1.auto.cells) c.requires.clean;
-    }
+    rw (same_err c.from_residual-in_err-descend.ensures.1) (descended _ c.top_of.ensures.0 p m own _ _ _ c.requires.within (omega arith) (sym c.is_process.ensures ∙ c.if-is_process.false) (Err _) refl e)
 
 pub returns : goal.returns
 unfolding Past
@@ -103,7 +84,4 @@ returns c =
     let m = c.in_ok-t.ensures in
     let own = c.in_ok-not_own.ensures in
     let f = c.in_ok-descend.ensures in
-    record {
-      steps = descended _ c.top_of.ensures.0 p m own _ _ _ c.requires.within (omega arith) (sym c.is_process.ensures ∙ c.if-is_process.false) (Ok _) refl f;
-      clean = clean-as (c.descend.auto.cells ∙ c.past_j1.auto.cells) c.requires.clean;
-    }
+    (descended _ c.top_of.ensures.0 p m own _ _ _ c.requires.within (omega arith) (sym c.is_process.ensures ∙ c.if-is_process.false) (Ok _) refl f)

@@ -1,5 +1,4 @@
 use Rattle.cycle.proofs.PartLaws.{part-quiet, part-most}
-use Rattle.structures.proofs.Whole.{clean-as}
 use Rattle.steps.proofs.Sequence.{same_err}
 use Rattle.paper.proofs.Kit.{arith, refl, rules}
 use Rattle.std.specs.Prelude.{Ok, Err}
@@ -15,14 +14,11 @@ on_lines-requires c = (
 )
 
 pub returns-then-j-le153 : goal.returns-then-j-le153
-returns-then-j-le153 c = record {
-  steps = part-most _ (omega arith) c.on_lines.ensures;
-  clean = clean-as c.on_lines.auto.cells c.requires.0.clean;
-}
+returns-then-j-le153 c = (part-most _ (omega arith) c.on_lines.ensures)
 
 pub by_family-requires : goal.by_family-requires
 by_family-requires c = (
-  c.requires.0.clean,
+  c.requires.0.range,
   record { fits = c.requires.0.room.fits; ends = c.top_of.ensures.1 },
   c.requires.1,
   search rules,
@@ -32,13 +28,7 @@ by_family-requires c = (
 
 pub returns-in_err-by_family : goal.returns-in_err-by_family
 returns-in_err-by_family c =
-    rw (same_err c.from_residual.ensures.1) record {
-      steps = part-quiet _ _ _ c.requires.0.within (Err _) refl c.top_of.ensures.0 (c.in_err-by_family.ensures).did;
-      clean = (c.in_err-by_family.ensures).clean;
-    }
+    rw (same_err c.from_residual.ensures.1) (part-quiet _ _ _ c.requires.0.within (Err _) refl c.top_of.ensures.0 c.in_err-by_family.ensures)
 
 pub returns : goal.returns
-returns c = record {
-  steps = part-quiet _ _ _ c.requires.0.within (Ok _) refl c.top_of.ensures.0 (c.in_ok-by_family.ensures).did;
-  clean = (c.in_ok-by_family.ensures).clean;
-}
+returns c = (part-quiet _ _ _ c.requires.0.within (Ok _) refl c.top_of.ensures.0 c.in_ok-by_family.ensures)
