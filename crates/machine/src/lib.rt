@@ -10,7 +10,7 @@ ghost use Rattle.machine.specs.Numbers.{numbers, is_finished_in, cycles_on, run_
 
 use paper::{RunAnswer, limits};
 use regions::{Regions, Table};
-use structures::{Marks, Order};
+use structures::Scratch;
 
 // A cycle logs at most two writes a cell and 41 more. The log takes two numbers a write, one to count them, and four for the cells it saves.
 const LOG: usize = 2 * (2 * limits::LARGEST_N + 41) + 5;
@@ -48,13 +48,12 @@ fn finished(cells: &[u64]) -> bool
 fn cycles(
     cells: &mut [u64],
     log: &mut [u64],
-    order: &mut Order,
-    marks: &mut Marks,
+    scratch: &mut Scratch,
     table: &Table,
     budget: u32,
     out: &mut [u8],
 ) -> Ran
-    requires { Ready cells.old log.old order.old marks.old × AllFormed cells.old × Told table.now }
+    requires { Ready cells.old log.old × AllFormed cells.old × Told table.now }
     ensures { (rs : List Region) → Tells table.now rs
         → numbers result cells.new out.new ≡ cycles_on rs budget cells.old out.old }
 {
@@ -64,7 +63,7 @@ fn cycles(
         if done == budget {
             return came_to(RunAnswer::BudgetSpent, done, at);
         }
-        match cycle::cycle(cells, log, order, marks, table, out, at) {
+        match cycle::cycle(cells, log, scratch, table, out, at) {
             Ok(end) => {
                 at = end;
                 done += 1;
@@ -87,9 +86,8 @@ pub fn run(cells: &mut [u64], regions: Regions, budget: u32, out: &mut [u8]) -> 
             }
             let table = regions.table();
             let mut log = [UNREAD; LOG];
-            let mut order = [undo::UNREAD; limits::LARGEST_N];
-            let mut marks = [0u16; structures::MANY_NUMBERS];
-            cycles(cells, &mut log, &mut order, &mut marks, &table, budget, out)
+            let mut scratch = Scratch::new();
+            cycles(cells, &mut log, &mut scratch, &table, budget, out)
         }
     }
 }

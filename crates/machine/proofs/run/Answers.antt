@@ -1,4 +1,4 @@
-use Rattle.paper.proofs.Kit.{ℕ, ◌+◌, ◌*◌, refl, ap, ◌∙◌, arith, length, length-replicate}
+use Rattle.paper.proofs.Kit.{ℕ, ◌+◌, ◌*◌, ap, ◌∙◌, arith, length, length-replicate}
 use Rattle.paper.specs.Limits.{largest_n}
 use Rattle.sound.proofs.SoundLaws.{passed-formed, passed-end, size-range}
 use Rattle.machine.specs.declared.Ran.{Ran}
@@ -17,7 +17,7 @@ cycles-requires c =
     let n = size-range (length c.args.cells.now) d.size in (
       record {
         room = omega (arith, n.1, length-replicate {A = ℕ} (2 * (2 * largest_n + 41) + 5) 1);
-        clean = record { large = n.0; small = n.1; sized = length-replicate {A = ℕ} largest_n 1; unmarked = refl };
+        range = record { large = n.0; small = n.1 };
       },
       passed-formed _ _ d.sound,
       record {
