@@ -6,7 +6,7 @@ use Rattle.paper.specs.declared.Refusal.{Refusal}
 use Rattle.paper.specs.declared.Refusal.TheVariants.{NotListed}
 use Rattle.paper.specs.Cell.{State, J}
 use Rattle.paper.specs.Act.{Act}
-use Rattle.paper.specs.Process.{Next, then as and_then, goes_on, then_on, Entry, one, ten, listed, perform}
+use Rattle.paper.specs.Process.{Next, then_on, Entry, one, ten, listed, perform}
 use Rattle.steps.specs.Follows.{Follows, World}
 use Rattle.acts.specs.GoesOn.{going_on}
 use Rattle.steps.proofs.Rest as last_arm
