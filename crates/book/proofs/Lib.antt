@@ -1,6 +1,6 @@
 -- Laws that the proofs share.
-pub mod Verdict
 pub mod Lines
 pub mod KeptLaws
 pub mod StepLaws
 pub mod StartLaws
+pub mod ListedLaws

@@ -1,28 +1,32 @@
 -- What the code keeps while it loads, as the book of the definitions.
-use Rattle.std.specs.Prelude.{ℕ, ◌%◌, Bool, true, false, List, map, ◌≡◌, leb}
+use Rattle.std.specs.Prelude.{ℕ, Bool, true, false, List, map, ◌≡◌}
 use Rattle.paper.specs.Cell.{Region}
 use Rattle.paper.specs.Deck.{LocalCell, Book}
 use Rattle.cells.specs.Bridge.{unpacked}
 use Rattle.regions.specs.declared.Regions.{Regions}
 use Rattle.regions.specs.Table.{regions_of}
+use Rattle.book.specs.declared.locals.Local.{Local}
 use Rattle.book.specs.declared.Notes.{Notes}
 
--- a local of one number: its cell, and 65,536 more once it has a word
-unfoldable pub local_of : ℕ → LocalCell
-local_of x = record { cell = x % 65536; has_word = leb 65536 x }
+-- a local as the definitions have it
+abbrev pub local_of : Local → LocalCell
+local_of x = record { cell = x.cell; has_word = x.has_word }
 
-abbrev pub locals_of : List ℕ → List LocalCell
+abbrev pub locals_of : List Local → List LocalCell
 locals_of l = map local_of l
 
--- the regions, the notes, the numbers of the locals and of the cells, and the names
+abbrev pub unmentioned : Local
+unmentioned = record { cell = 0; has_word = false }
+
+-- the regions, the notes, the locals, the numbers of the cells, and the names
 pub record Held : Type 0 where
   pub regions : List Region
   pub notes : Notes
-  pub locals : List ℕ
+  pub locals : List Local
   pub numbers : List ℕ
   pub names : List Bool
 
-abbrev pub held : List Region → Notes → List ℕ → List ℕ → List Bool → Held
+abbrev pub held : List Region → Notes → List Local → List ℕ → List Bool → Held
 held rs k l s m = record { regions = rs; notes = k; locals = l; numbers = s; names = m }
 
 abbrev pub book_of : Held → Book
@@ -51,10 +55,10 @@ waiting_noted k w = record { words = true; opened = k.opened; waiting = w }
 abbrev pub RegionsAre : Regions → Book → Type 0
 RegionsAre r t = t.regions ≡ regions_of r
 
-abbrev pub LocalsAre : List ℕ → Book → Type 0
+abbrev pub LocalsAre : List Local → Book → Type 0
 LocalsAre l t = t.locals ≡ locals_of l
 
-pub record NotedIn (r : Regions) (k : Notes) (l : List ℕ) (m : List Bool) (t : Book) : Type 0 where
+pub record NotedIn (r : Regions) (k : Notes) (l : List Local) (m : List Bool) (t : Book) : Type 0 where
   pub regions : t.regions ≡ regions_of r
   pub opened : t.opened ≡ k.opened
   pub locals : t.locals ≡ locals_of l

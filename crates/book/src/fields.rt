@@ -12,20 +12,14 @@ pub fn data_tag(f: Field) -> u8
     match f {
         Field::Regional(_, _) => Symbol::REGIONAL,
         Field::Local(_) => Symbol::LOCAL,
-        Field::Zero => Symbol::INTERNAL,
-        Field::Blank => Symbol::INTERNAL,
+        Field::Zero | Field::Blank => Symbol::INTERNAL,
     }
 }
 
 pub fn is_blank(f: Field) -> bool
     ensures { result ≡ is_blank f }
 {
-    match f {
-        Field::Regional(_, _) => false,
-        Field::Local(_) => false,
-        Field::Zero => false,
-        Field::Blank => true,
-    }
+    matches!(f, Field::Blank)
 }
 
 // CR 5: "a process we don't have".
@@ -34,8 +28,6 @@ pub fn is_missing(f: Field) -> bool
 {
     match f {
         Field::Regional(b, n) => (b == b'J') & !is_listed(n),
-        Field::Local(_) => false,
-        Field::Zero => false,
-        Field::Blank => false,
+        _ => false,
     }
 }

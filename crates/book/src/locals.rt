@@ -1,36 +1,37 @@
-// The locals of the open structure, by number: the cell of each, 0 before its first mention, and WORD more once it has a word.
+// The locals of the open structure, by number.
 ghost use Rattle.std.specs.Prelude.{◌≡◌, set, replicate};
 ghost use Rattle.paper.specs.Limits.{many_locals};
 ghost use Rattle.paper.specs.Deck.{local_at, all_words};
-ghost use Rattle.book.specs.Kept.{locals_of};
+ghost use Rattle.book.specs.Kept.{local_of, locals_of, unmentioned};
 
 use paper::limits;
 
-pub type Locals = [u32; limits::MANY_LOCALS];
-
-pub(crate) const WORD: u32 = 65536;
-
-pub(crate) fn cell_of(locals: &[u32], n: u16) -> u16
-    ensures { result ≡ (local_at (locals_of locals.now) n).cell }
-{
-    let i = n as usize;
-    if i < locals.len() {
-        return (locals[i] % WORD) as u16;
-    }
-    0
+// Its cell, 0 before its first mention, and whether it has a word.
+#[derive(Clone, Copy)]
+pub struct Local {
+    pub cell: u16,
+    pub has_word: bool,
 }
 
-pub(crate) fn has_word(locals: &[u32], n: u16) -> bool
-    ensures { result ≡ (local_at (locals_of locals.now) n).has_word }
+pub type Locals = [Local; limits::MANY_LOCALS];
+
+// Before its first mention.
+const UNMENTIONED: Local = Local {
+    cell: 0,
+    has_word: false,
+};
+
+// Before a structure is open.
+pub const NO_LOCALS: Locals = [UNMENTIONED; limits::MANY_LOCALS];
+
+pub(crate) fn local_at(locals: &[Local], n: u16) -> Local
+    ensures { local_of result ≡ local_at (locals_of locals.now) n }
 {
-    let i = n as usize;
-    if i < locals.len() {
-        return WORD <= locals[i];
-    }
-    false
+    locals.get(n as usize).copied().unwrap_or(UNMENTIONED)
 }
 
-pub(crate) fn note(locals: &mut [u32], n: u16, x: u32)
+// By an index: of a write through a slice's `get_mut` the check knows nothing.
+pub(crate) fn note(locals: &mut [Local], n: u16, x: Local)
     ensures { locals.new ≡ set locals.old n x }
 {
     let i = n as usize;
@@ -41,21 +42,14 @@ pub(crate) fn note(locals: &mut [u32], n: u16, x: u32)
 
 // No local is mentioned.
 pub fn forget(locals: &mut Locals)
-    ensures { locals.new ≡ replicate many_locals 0 }
+    ensures { locals.new ≡ replicate many_locals unmentioned }
 {
-    *locals = [0; limits::MANY_LOCALS];
+    *locals = NO_LOCALS;
 }
 
-// Whether each local that was mentioned has a word. All are looked at: the loop compiles to a few wide steps.
-pub(crate) fn all_words(locals: &[u32]) -> bool
+// Whether each local that was mentioned has a word.
+pub(crate) fn all_words(locals: &[Local]) -> bool
     ensures { result ≡ all_words (locals_of locals.now) }
 {
-    let mut all = true;
-    let mut i = 0;
-    while i < locals.len() {
-        let x = locals[i];
-        all = all & ((x == 0) | (WORD <= x));
-        i += 1;
-    }
-    all
+    locals.iter().all(|x| x.cell == 0 || x.has_word)
 }

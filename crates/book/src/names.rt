@@ -4,13 +4,10 @@ ghost use Rattle.std.specs.Prelude.{true, false, ◌≡◌, get_or, set};
 pub(crate) fn named(names: &[bool], c: u16) -> bool
     ensures { result ≡ get_or names.now c false }
 {
-    let i = c as usize;
-    if i < names.len() {
-        return names[i];
-    }
-    false
+    names.get(c as usize).copied().unwrap_or(false)
 }
 
+// By an index: of a write through a slice's `get_mut` the check knows nothing.
 pub(crate) fn mark(names: &mut [bool], c: u16)
     ensures { names.new ≡ set names.old c true }
 {

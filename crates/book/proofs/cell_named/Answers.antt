@@ -1,7 +1,7 @@
 use Rattle.steps.proofs.Sequence.{give, seen}
 use Rattle.book.proofs.Lines.{by-case, part}
 use Rattle.paper.specs.Deck.{cell_named}
-use Rattle.paper.proofs.Kit.{sym}
+use Rattle.paper.proofs.Kit.{sym, ⊎_elim}
 use Rattle.book.proofs.cell_named.Goals as goal
 
 pub returns-in-Regional : goal.returns-in-Regional
@@ -15,8 +15,5 @@ returns-in-Local c =
 
 pub returns-in-Zero : goal.returns-in-Zero
 unfolding cell_named
-returns-in-Zero c = λ k m. by-case cell_named c.in-Zero.is give
-
-pub returns-in-Blank : goal.returns-in-Blank
-unfolding cell_named
-returns-in-Blank c = λ k m. by-case cell_named c.in-Blank.is give
+returns-in-Zero c =
+    λ k m. ⊎_elim (λ p. by-case cell_named p give) (λ p. by-case cell_named p give) c.in-Zero.is

@@ -4,7 +4,7 @@ use Rattle.records.specs.Symbols.{name_of}
 use Rattle.paper.specs.declared.Fault.TheVariants.{BadName}
 use Rattle.paper.specs.Limits.{first_deck}
 use Rattle.paper.specs.Region.{cell_of}
-use Rattle.paper.specs.Deck.{name_fits, local_at}
+use Rattle.paper.specs.Deck.{LocalCell, name_fits, local_at}
 use Rattle.paper.proofs.Kit.{◌||◌, get_or, eqb, ltb, ℕ, Bool, true, false, not, ◌&&◌, or_assoc, ◌≡◌, refl, ap, sym, ◌∙◌, eqb-true}
 use Rattle.book.proofs.name_fits.Goals as goal
 
@@ -35,10 +35,10 @@ returns-in-Local c =
     by-case (λ x. name_fits c.args.word (name_of x)) c.in-Local.is
     (sees _ (told_part _ (λ t h. h.waiting))
     (or-tells _ _ _
-    (any (when BadName (or_assoc w (not c.args.notes.opened) c.has_word.result) c.refuse_if-in-Local.ensures))
+    (any (when BadName (or_assoc w (not c.args.notes.opened) c.local_at.result.has_word) c.refuse_if-in-Local.ensures))
     (λ d. sees _ (told_part _ (λ t h. h.opened))
     (or-tells _ _ _ d
-    (λ d. sees _ (told_part _ (λ t h. ap (λ ls. local_at ls c.in-Local.n) h.locals)) (when BadName c.has_word.ensures d))))))
+    (λ d. sees _ (told_part _ (λ t h. ap (λ ls. local_at ls c.in-Local.n) h.locals)) (when BadName (ap (λ (x : LocalCell). x.has_word) c.local_at.ensures) d))))))
 
 pub returns-in-Blank : goal.returns-in-Blank
 unfolding name_fits

@@ -1,11 +1,8 @@
+use Rattle.std.proofs.Common.{rules, tests}
 use Rattle.paper.specs.Process.{is_listed, is_listed_in, listed}
-use Rattle.paper.proofs.Kit.{sym, arith, rules}
-use Rattle.paper.proofs.ListedTable.{agrees, in-table, none-past}
 use Rattle.book.proofs.listed.is_listed.Goals as goal
 
-pub returns-then-i-lt-MANY_PROCESSES : goal.returns-then-i-lt-MANY_PROCESSES
-unfolding agrees is_listed is_listed_in listed
-returns-then-i-lt-MANY_PROCESSES c = search (rules, in-table)
-
-pub returns : goal.returns
-returns c = sym (none-past _ (omega arith))
+-- the numbers that stand alone
+pub returns-in-0-to-6 : goal.returns-in-0-to-6
+unfolding is_listed is_listed_in listed
+returns-in-0-to-6 c = search (tests, rules)

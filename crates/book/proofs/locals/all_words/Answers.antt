@@ -1,14 +1,11 @@
-use Rattle.paper.proofs.Kit.{rules, arith, refl}
-use Rattle.book.proofs.KeptLaws.{words-on, words-end}
+use Rattle.std.proofs.Common.{rules, tests, eqb, ◌||◌, ◌∙◌}
+use Rattle.std.proofs.lemmas.Iterator.{YieldsList-from_slice}
+use Rattle.std.proofs.lemmas.Iterator.Search.{all_from_yields_List}
+use Rattle.book.proofs.KeptLaws.{words-all}
 use Rattle.book.proofs.locals.all_words.Goals as goal
-
-pub loop-i-init : goal.loop-i-init
-loop-i-init c = (search rules, refl)
-
-pub loop-i-preserved : goal.loop-i-preserved
-loop-i-preserved c =
-    (search rules, words-on c.args.locals.now c.loop-i.i c.loop-i.all _ (search rules) c.loop-i.invariant.1)
 
 pub returns : goal.returns
 returns c =
-    words-end c.args.locals.now c.loop-i.i c.loop-i.all _ (omega arith) c.loop-i.invariant.1
+    let l = c.args.locals.now in
+    all_from_yields_List (λ x. eqb x.cell 0 || x.has_word) _ _ _ c.all.ensures.ran (YieldsList-from_slice l cc) (λ x b q k. search (rules, tests))
+    ∙ words-all l
