@@ -27,7 +27,7 @@ pub fn is_missing(f: Field) -> bool
     ensures { result ≡ is_missing f }
 {
     match f {
-        Field::Regional(b, n) => (b == b'J') & !is_listed(n),
+        Field::Regional(b, n) => b == b'J' && !is_listed(n),
         _ => false,
     }
 }

@@ -52,7 +52,7 @@ pub fn refuse_if(b: bool, e: Fault) -> Result<(), Fault>
 pub fn put(cells: &mut [u64], c: u16, x: u64)
     ensures { cells.new ≡ set cells.old c x }
 {
-    let i = c as usize;
+    let i = usize::from(c);
     if i < cells.len() {
         cells[i] = x;
     }
@@ -267,8 +267,8 @@ pub fn can_start(cells: &[u64], names: &[bool]) -> bool
 {
     let start = cells::symbol(cells::word_in(cells::peek(cells, limits::H1)));
     let c = start.num;
-    if (limits::J0..limits::FIRST_DECK).contains(&c) {
-        return is_listed(c - limits::J0);
+    match c {
+        limits::J0..limits::FIRST_DECK => is_listed(c - limits::J0),
+        _ => named(names, c),
     }
-    named(names, c)
 }

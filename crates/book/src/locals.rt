@@ -27,14 +27,14 @@ pub const NO_LOCALS: Locals = [UNMENTIONED; limits::MANY_LOCALS];
 pub(crate) fn local_at(locals: &[Local], n: u16) -> Local
     ensures { local_of result ≡ local_at (locals_of locals.now) n }
 {
-    locals.get(n as usize).copied().unwrap_or(UNMENTIONED)
+    locals.get(usize::from(n)).copied().unwrap_or(UNMENTIONED)
 }
 
 // By an index: of a write through a slice's `get_mut` the check knows nothing.
 pub(crate) fn note(locals: &mut [Local], n: u16, x: Local)
     ensures { locals.new ≡ set locals.old n x }
 {
-    let i = n as usize;
+    let i = usize::from(n);
     if i < locals.len() {
         locals[i] = x;
     }

@@ -4,14 +4,14 @@ ghost use Rattle.std.specs.Prelude.{true, false, ◌≡◌, get_or, set};
 pub(crate) fn named(names: &[bool], c: u16) -> bool
     ensures { result ≡ get_or names.now c false }
 {
-    names.get(c as usize).copied().unwrap_or(false)
+    names.get(usize::from(c)).copied().unwrap_or(false)
 }
 
 // By an index: of a write through a slice's `get_mut` the check knows nothing.
 pub(crate) fn mark(names: &mut [bool], c: u16)
     ensures { names.new ≡ set names.old c true }
 {
-    let i = c as usize;
+    let i = usize::from(c);
     if i < names.len() {
         names[i] = true;
     }
