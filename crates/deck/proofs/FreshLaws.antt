@@ -7,8 +7,9 @@ use Rattle.paper.specs.Deck.{fresh_cell, cells_from, fresh, fresh_book}
 use Rattle.cells.specs.Layout.{unpack_of}
 use Rattle.cells.specs.Pack.{Packs, AllFormed}
 use Rattle.cells.specs.Bridge.{unpacked}
+use Rattle.book.specs.declared.locals.Local.{Local}
 use Rattle.book.specs.declared.Notes.{Notes}
-use Rattle.book.specs.Kept.{held, book_of, no_notes}
+use Rattle.book.specs.Kept.{held, book_of, no_notes, unmentioned}
 use Rattle.book.proofs.KeptLaws.{local-none}
 
 pub packs-as : {r : ℕ} {x y : Cell} → x ≡ y → Packs r y → Packs r x
@@ -26,11 +27,6 @@ set_below {A} P l i x d h b p j k = go (ℕ_discrete j i)
     go : Dec (j ≡ i) → P j (get_or (set l i x) j d)
     go (yes e) = rw (e, get_or-set_same l i x d h) p
     go (no n) = rw (get_or-set_other l i j x d n) (b j (omega arith))
-
-pub all_alike : {A : Type 0} (v : A) (l : List A) (n : ℕ) → length l ≡ n → ((j : ℕ) → j < n → get_or l j v ≡ v) → l ≡ replicate n v
-all_alike v l n e h =
-    ext_get_or v l (replicate n v) (e ∙ sym (length-replicate n v))
-    (λ i b. h i (omega arith) ∙ sym (get_or-replicate n i v v (omega arith)))
 
 -- cells laid one by one
 laid_cells : (f : ℕ → Cell) (s : List ℕ) (c : ℕ) → ((j : ℕ) → j < length s → Packs (get_or s j 0) (f (c + j))) → unpacked s ≡ cells_from f (length s) c
@@ -56,9 +52,9 @@ laid f s n e h = (laid_cells f s 0 each ∙ ap (λ (k : ℕ). cells_from f k 0) 
     each j b = let z : 0 + j ≡ j = omega arith in rw z (h j (omega arith))
 
 -- the book before any word
-pub begun : (rs : List Region) (k : Notes) (l s : List ℕ) (m m' : List Bool) (n e : ℕ) → e ≡ end_of_regions rs first_deck
+pub begun : (rs : List Region) (k : Notes) (l : List Local) (s : List ℕ) (m m' : List Bool) (n e : ℕ) → e ≡ end_of_regions rs first_deck
     → unpacked s ≡ cells_from (fresh_cell n e) n 0
-    → m' ≡ replicate (length m) false → length m ≡ n → l ≡ replicate many_locals 0 → k ≡ no_notes
+    → m' ≡ replicate (length m) false → length m ≡ n → l ≡ replicate many_locals unmentioned → k ≡ no_notes
     → book_of (held rs k l s m') ≡ fresh_book n rs
 unfolding fresh
 begun rs k l s m m' n e end cells marks size locals notes = rw (notes, locals, local-none many_locals, cells, end, marks, size)

@@ -1,6 +1,7 @@
 -- The outcome of a load in numbers.
-use Rattle.paper.proofs.Kit.{clash, ℕ, zero, suc, ◌≤◌, Bool, true, false, cond, ◌&&◌, List, [], ◌∷◌, ◌≡◌, refl, ap, sym, ◌∙◌, Option, none, some}
+use Rattle.paper.proofs.Kit.{clash, ℕ, zero, suc, ◌≤◌, Bool, true, false, cond, ◌&&◌, List, [], ◌∷◌, ◌≡◌, refl, ap, sym, ◌∙◌, subst}
 use Rattle.paper.proofs.Kit.{leb-true, leb, length, take, replicate, length-replicate, length-take-le}
+use Rattle.std.specs.Prelude.{Result, Ok, Err}
 use Rattle.paper.specs.declared.Fault.{Fault}
 use Rattle.paper.specs.declared.LoadAnswer.TheVariants.{Loaded as AnswerLoaded, BadSize, Broken}
 use Rattle.paper.specs.Limits.{smallest_n, largest_n}
@@ -12,9 +13,6 @@ use Rattle.cells.proofs.Store.{unpacked-length, packed-unpacked}
 use Rattle.regions.specs.declared.Regions.{Regions}
 use Rattle.regions.specs.Table.{regions_of, no_regions}
 use Rattle.regions.proofs.TableLaws.{none-held}
-use Rattle.book.specs.Verdict.{told_fault}
-use Rattle.book.proofs.Verdict.{told-fine}
-use Rattle.deck.specs.declared.Ended.{Ended}
 use Rattle.deck.specs.declared.Loaded.{Loaded}
 use Rattle.deck.specs.Load.{table_from, outcome_of, Ends, Loads}
 
@@ -73,19 +71,19 @@ module _ (deck s : List ℕ) (b : Bool) (size : b ≡ size_fits (length s)) wher
       loads-as deck s _ false (too_few deck s (sym size ∙ e)) (sym size ∙ e) refl (ap regions_of q ∙ none-held) q
       refl
 
-  module _ (e : b ≡ true) (d : Ended) {t : List ℕ} (h : Ends deck s t d) where
+  module _ (e : b ≡ true) {q : Result Regions (Fault × ℕ)} {t : List ℕ} (h : Ends deck s t q) where
     fits : size_fits (length s) ≡ true
     fits = sym size ∙ e
 
-    comes : (j : Option Fault) → told_fault d.go ≡ j → load deck (unpacked s) ≡ outcome_of (length s) j d.at d.regions t
-    comes j q = enough deck s fits ∙ h.is ∙ ap (λ (i : Option Fault). outcome_of (length s) i d.at d.regions t) q
+    comes : {p : Result Regions (Fault × ℕ)} → q ≡ p → load deck (unpacked s) ≡ outcome_of (length s) p t
+    comes p = enough deck s fits ∙ h.is ∙ ap (λ x. outcome_of (length s) x t) p
 
-    pub loads-fine : d.go ≡ 0 → Loads deck s t (record { answer = AnswerLoaded; regions = d.regions })
-    loads-fine q = loads-as deck s _ true (comes none (told-fine d.go q)) fits refl refl h.made (sym (packed-unpacked t h.formed))
+    pub loads-fine : {r : Regions} → q ≡ Ok r → Loads deck s t (record { answer = AnswerLoaded; regions = r })
+    loads-fine p = loads-as deck s _ true (comes p) fits refl refl (subst (Ends deck s t) p h).made (sym (packed-unpacked t h.formed))
 
-    pub loads-refused : (f : Fault) {s' : List ℕ} {r : Regions} → told_fault d.go ≡ some f → length t ≡ length s → s' ≡ replicate (length t) 0
-        → r ≡ no_regions → Loads deck s s' (record { answer = Broken f d.at; regions = r })
+    pub loads-refused : {f : Fault × ℕ} {s' : List ℕ} {r : Regions} → q ≡ Err f → length t ≡ length s → s' ≡ replicate (length t) 0 → r ≡ no_regions
+        → Loads deck s s' (record { answer = Broken f.0 f.1; regions = r })
     unfolding table_from
-    loads-refused f q l z p =
-        loads-as deck s _ true (comes (some f) q) fits refl (ap regions_of p ∙ none-held) p
+    loads-refused p l z u =
+        loads-as deck s _ true (comes p) fits refl (ap regions_of u ∙ none-held) u
         (z ∙ ap (λ (n : ℕ). replicate n 0) l ∙ all-zero (length s))

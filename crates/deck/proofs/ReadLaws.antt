@@ -1,38 +1,34 @@
 -- Reading a deck record by record: what one record comes to, and where the loop stands.
 use Rattle.paper.proofs.Kit.{clash, ℕ, zero, suc, ◌+◌, ◌<◌, ◌≤◌, Bool, true, false, cond, List, [], ◌∷◌, Option, none, some, ◌≡◌, refl, ap, sym, ◌∙◌, arith, eq-eqb}
 use Rattle.paper.proofs.Kit.{ne_eqb, lt-ltb, le-ltb, ltb-true, ltb-false, ltb, length, drop, length-drop, drop_of_length-le, drop-drop}
+use Rattle.std.specs.Prelude.{Result, Ok, Err}
 use Rattle.paper.specs.declared.Fault.{Fault}
 use Rattle.paper.specs.declared.Fault.TheVariants.{PastEnd, UnknownKind, BadField, NotEnded, Hopeless}
 use Rattle.paper.specs.Step.{Res, done, refused, ◌>>=◌, ◌>>◌, refuse, refuse_if, ret}
-use Rattle.paper.specs.Record.{byte_at, size_of, record_at}
+use Rattle.paper.specs.Record.{Record, byte_at, size_of, record_at}
 use Rattle.paper.specs.Deck.{Book, Load, Ended, complete, broken, on_res, can_start, closing, records, fresh_book, load_one, well_formed}
-use Rattle.steps.specs.Follows.{Follows, Always, left}
-use Rattle.steps.proofs.Join.{to-stop}
-use Rattle.steps.proofs.Sequence.{alike-here}
+use Rattle.steps.proofs.Sequence.{alike-here, bind, give}
 use Rattle.regions.specs.declared.Regions.{Regions}
 use Rattle.regions.specs.Table.{regions_of}
+use Rattle.book.specs.declared.locals.Local.{Local}
 use Rattle.book.specs.declared.Notes.{Notes}
 use Rattle.book.specs.Kept.{Held, held, book_of}
-use Rattle.book.specs.Verdict.{fault_by}
-use Rattle.book.specs.Booked.{loading}
-use Rattle.book.proofs.Verdict.{told-fine, told-fault}
+use Rattle.book.specs.Booked.{Booked}
 use Rattle.deck.specs.declared.Placed.{Placed}
-use Rattle.deck.specs.Load.{one_record, one_parsed, Made, PlacesIn, stopped}
+use Rattle.deck.specs.Load.{one_record, one_parsed, Made, PlacesIn}
 
--- what was done from a fine start, by its answer
-module _ {A : Type 0} {M : Load A} {h h' : Held} {v : A} where
-  pub is-done : Follows loading Always 0 M h none h' none v → M (book_of h) ≡ done v (book_of h')
-  unfolding left ◌>>◌ ret
-  is-done d = (d.is tt tt).is
+-- what was done, by its answer
+module _ {A : Type 0} {M : Load A} {h h' : Held} where
+  pub is-done : {v : A} → Booked M h h' (Ok v) → M (book_of h) ≡ done v (book_of h')
+  is-done d = d.is tt tt
 
-  pub is-refused : (f : Fault) → Follows loading Always 0 M h none h' (some f) v → M (book_of h) ≡ refused f
-  unfolding left ◌>>◌ ret refuse
-  is-refused f d = (d.is tt tt).is
+  pub is-refused : {f : Fault} → Booked M h h' (Err f) → M (book_of h) ≡ refused f
+  is-refused d = d.is tt tt
 
 -- a record that is refused
-pub stops : (n : ℕ) {M : Load Bool} {t : Regions} {k : Notes} {l s : List ℕ} {m : List Bool} → 0 < n
-    → M (book_of (held (regions_of t) k l s m)) ≡ refused (fault_by n) → Made t → PlacesIn M t k l s m l s m (stopped t k n)
-stops n g e h = record { did = record { is = λ _ _. to-stop (fault_by n) (told-fine 0 refl) (told-fault n g) e; kept = λ f. f }; made = h }
+pub stops : {M : Load Bool} {t : Regions} {k : Notes} {l : List Local} {s : List ℕ} {m : List Bool} {f : Fault}
+    → M (book_of (held (regions_of t) k l s m)) ≡ refused f → Made t → PlacesIn M t k l s m l s m (Err f)
+stops e h = record { did = record { is = λ _ _. e; kept = λ f. f }; made = h }
 
 -- one record: 3, 2, and the rest
 passes : {A : Type 0} (f : Fault) (M : Load A) (b : Book) (t : Bool) → t ≡ false → (refuse_if t f >> M) b ≡ M b
@@ -66,10 +62,17 @@ module _ (size kind : ℕ) (r : List ℕ) (b : Book) where
       go true f = let y = cut_off none (ltb-true _ _ f) in clash cc
       go false f = ltb-false _ _ f
 
--- what is whole comes to what its record comes to
-pub placed-whole : (size kind : ℕ) (r : List ℕ) {t : Regions} {k : Notes} {l l' s s' : List ℕ} {m m' : List Bool} {x : Placed} → (size_of kind ≡ 0 → ⊥)
-    → size_of kind ≤ length r → PlacesIn (one_parsed size (record_at r)) t k l s m l' s' m' x → PlacesIn (load_one size kind r) t k l s m l' s' m' x
-placed-whole size kind r n h d = record { did = alike-here (λ _ _. whole size kind r _ n h) d.did; made = d.made }
+-- what is whole and well written comes to what its record comes to
+pub placed-whole : (size kind : ℕ) (r : List ℕ) (y : Record) {t : Regions} {k : Notes} {l l' : List Local} {s s' : List ℕ} {m m' : List Bool}
+    {x : Result Placed Fault} → (size_of kind ≡ 0 → ⊥) → size_of kind ≤ length r → record_at r ≡ some y
+    → PlacesIn (one_record size y) t k l s m l' s' m' x → PlacesIn (load_one size kind r) t k l s m l' s' m' x
+unfolding one_parsed well_formed
+placed-whole size kind r y {t} {k} {l} {l'} {s} {s'} {m} n h e d =
+    let b = book_of (held (regions_of t) k l s m) in
+    record {
+      did = alike-here (λ _ _. whole size kind r b n h ∙ ap (λ o. one_parsed size o b) e) (bind (one_record size) give d.did);
+      made = d.made;
+    }
 
 pub not_written : (size : ℕ) (o : Option _) (b : Book) → o ≡ none → one_parsed size o b ≡ refused BadField
 unfolding one_parsed well_formed ◌>>=◌ refuse

@@ -1,6 +1,6 @@
 -- What the contracts of the loader say: the outcome of a load in numbers, and what its steps rely on.
-use Rattle.std.specs.Prelude.{ℕ, zero, suc, ◌+◌, ◌≤◌, Bool, true, false, cond, List, [], ◌∷◌, ◌≡◌, length, replicate}
-use Rattle.std.proofs.Math.Option.{Option, none, some}
+use Rattle.std.specs.Prelude.{ℕ, zero, suc, ◌+◌, ◌≤◌, Bool, true, false, cond, List, [], ◌∷◌, ◌≡◌, length, replicate, Result, Ok, Err, IfOk}
+use Rattle.std.proofs.Math.Option.{Option}
 use Rattle.paper.specs.declared.Fault.{Fault}
 use Rattle.paper.specs.declared.LoadAnswer.TheVariants.{Loaded as AnswerLoaded, Broken}
 use Rattle.paper.specs.Cell.{Region, word, zeros, size_fits}
@@ -15,15 +15,13 @@ use Rattle.regions.specs.declared.Regions.{Regions}
 use Rattle.regions.specs.Table.{regions_of, no_regions, with_region, Laid}
 use Rattle.records.specs.declared.Record.{Record}
 use Rattle.records.specs.declared.Record.TheVariants.{Region as RegionRecord, Routine, Datum, Number, Start}
-use Rattle.records.specs.declared.Parsed.{Parsed}
-use Rattle.records.specs.declared.Parsed.TheVariants.{Is, Nothing}
+use Rattle.steps.specs.Follows.{seen_as}
+use Rattle.book.specs.declared.locals.Local.{Local}
 use Rattle.book.specs.declared.Notes.{Notes}
 use Rattle.book.specs.Kept.{held}
-use Rattle.book.specs.Verdict.{told_fault}
-use Rattle.book.specs.Booked.{LentCells, LentNames, Booked}
+use Rattle.book.specs.Booked.{LentCells, LentLocals, LentNames, Booked}
 use Rattle.deck.specs.declared.Loaded.{Loaded}
 use Rattle.deck.specs.declared.Placed.{Placed}
-use Rattle.deck.specs.declared.Ended.{Ended}
 
 -- the table of a list of regions
 unfoldable pub table_from : Regions → List Region → Regions
@@ -51,14 +49,18 @@ one_record size x = load_record size x >> ret (is_start x)
 unfoldable pub one_parsed : ℕ → Option PaperRecord → Load Bool
 one_parsed size o = well_formed o >>= one_record size
 
--- a record that is refused, with its answer number
-abbrev pub stopped : Regions → Notes → ℕ → Placed
-stopped t k n = record { go = n; last = false; notes = k; regions = t }
+-- where a record that is refused leaves the table and the notes: as they were
+abbrev pub stopped : Regions → Notes → Placed
+stopped t k = record { last = false; notes = k; regions = t }
 
--- what the verdict of the record loop says, where it stopped, its table and the numbers left, as the outcome
-abbrev pub outcome_of : ℕ → Option Fault → ℕ → Regions → List ℕ → LoadOutcome
-outcome_of size none at r s = record { answer = AnswerLoaded; cells = unpacked s; regions = regions_of r }
-outcome_of size (some f) at r s = record { answer = Broken f at; cells = replicate size (word zeros); regions = [] }
+abbrev pub placed_or : Placed → Result Placed Fault → Placed
+placed_or x (Ok y) = y
+placed_or x (Err e) = x
+
+-- what the record loop answers, a table or a fault with its offset, and the numbers left, as the outcome
+abbrev pub outcome_of : ℕ → Result Regions (Fault × ℕ) → List ℕ → LoadOutcome
+outcome_of size (Ok r) s = record { answer = AnswerLoaded; cells = unpacked s; regions = regions_of r }
+outcome_of size (Err f) s = record { answer = Broken f.0 f.1; cells = replicate size (word zeros); regions = [] }
 
 -- how many of the k letters from b on can still be those of a region
 unfoldable pub unused : List Region → ℕ → ℕ → ℕ
@@ -72,11 +74,13 @@ pub record Made (r : Regions) : Type 0 where
   pub made : r ≡ table_of (regions_of r)
 
 -- what a record comes to: the block's result, and a table to go on with
-pub record PlacesIn (M : Load Bool) (t : Regions) (k : Notes) (l s : List ℕ) (m : List Bool) (l' s' : List ℕ) (m' : List Bool) (r : Placed) : Type 0 where
-  pub did : Booked M (held (regions_of t) k l s m) 0 (held (regions_of r.regions) r.notes l' s' m') r.go r.last
-  pub made : Made r.regions
+pub record PlacesIn (M : Load Bool) (t : Regions) (k : Notes) (l : List Local) (s : List ℕ) (m : List Bool) (l' : List Local) (s' : List ℕ) (m' : List Bool)
+    (r : Result Placed Fault) : Type 0 where
+  pub did : let x = placed_or (stopped t k) r in
+      Booked M (held (regions_of t) k l s m) (held (regions_of x.regions) x.notes l' s' m') (seen_as (λ x. x.last) r)
+  pub made : Made (placed_or (stopped t k) r).regions
 
-abbrev pub Places : Load Bool → Regions → Notes → LentCells → LentCells → LentNames → Placed → Type 0
+abbrev pub Places : Load Bool → Regions → Notes → LentLocals → LentCells → LentNames → Result Placed Fault → Type 0
 Places M t k locals cells names r =
     PlacesIn M t k locals.entry.now cells.entry.now names.entry.now locals.exit.now cells.exit.now names.exit.now r
 
@@ -93,13 +97,8 @@ Lettered (Datum name symb link) = Unit {0}
 Lettered (Number name v) = Unit {0}
 Lettered (Start b n) = Unit {0}
 
-abbrev pub AllLettered : Parsed → Type 0
-AllLettered (Is x) = Lettered x
-AllLettered Nothing = Unit {0}
-
 -- what the record loop comes to: the outcome of the definition, but for the zeros of a refused load
-pub record Ends (deck : List ℕ) (s s' : List ℕ) (r : Ended) : Type 0 where
-  pub is : ending (length s) (records (length s) (suc (length deck)) 0 deck (fresh_book (length s) []))
-      ≡ outcome_of (length s) (told_fault r.go) r.at r.regions s'
+pub record Ends (deck : List ℕ) (s s' : List ℕ) (r : Result Regions (Fault × ℕ)) : Type 0 where
+  pub is : ending (length s) (records (length s) (suc (length deck)) 0 deck (fresh_book (length s) [])) ≡ outcome_of (length s) r s'
   pub formed : AllFormed s'
-  pub made : r.regions ≡ table_of (regions_of r.regions)
+  pub made : IfOk r (λ t. t ≡ table_of (regions_of t))

@@ -1,5 +1,5 @@
-// The cells before any word, and after a refusal.
-ghost use Rattle.std.specs.Prelude.{◌≡◌, false, ◌≤◌, length, replicate};
+// The cells before any word.
+ghost use Rattle.std.specs.Prelude.{◌≡◌, ◌≤◌, length};
 ghost use Rattle.paper.specs.Limits.{largest_n};
 ghost use Rattle.paper.specs.Deck.{next_free, fresh_cell, cells_from, fresh_book};
 ghost use Rattle.cells.specs.Pack.{Packs, AllFormed};
@@ -36,26 +36,18 @@ fn fresh_cell(size: usize, end: usize, c: usize) -> u64
     requires { (size ≤ largest_n) × (c ≤ largest_n) }
     ensures { Packs result (fresh_cell size end c) }
 {
-    if FIRST_DECK <= c {
-        if c < end {
-            return cells::EMPTY;
+    match c {
+        FIRST_DECK.. if c < end => cells::EMPTY,
+        FIRST_DECK.. => cells::of_free(next_free(size, c + 1)),
+        J0.. => cells::of_process(),
+        0 => cells::of_fields(0, 0, 0, 0),
+        H2 => {
+            let x = Symbol::empty();
+            cells::of_fields(0, x.tag, x.num, next_free(size, end))
         }
-        return cells::of_free(next_free(size, c + 1));
+        H3 => cells::of_integer(cells::ZERO),
+        _ => cells::EMPTY,
     }
-    if c == 0 {
-        return cells::of_fields(0, 0, 0, 0);
-    }
-    if c == H2 {
-        let x = Symbol::empty();
-        return cells::of_fields(0, x.tag, x.num, next_free(size, end));
-    }
-    if c == H3 {
-        return cells::of_integer(cells::ZERO);
-    }
-    if c < J0 {
-        return cells::EMPTY;
-    }
-    cells::of_process()
 }
 
 // "The free list starts ascending", "Undefined regional cells are empty words", "H0, W and the rest of H are empty"; H3 counts from 0.
@@ -65,20 +57,8 @@ fn lay(cells: &mut [u64], end: usize)
         × AllFormed cells.new }
 {
     let n = cells.len();
-    let mut c = 0;
-    while c < n {
+    for c in 0..n {
         cells[c] = fresh_cell(n, end, c);
-        c += 1;
-    }
-}
-
-fn unmark(names: &mut [bool])
-    ensures { names.new ≡ replicate (length names.old) false }
-{
-    let mut i = 0;
-    while i < names.len() {
-        names[i] = false;
-        i += 1;
     }
 }
 
@@ -94,18 +74,7 @@ pub(crate) fn begin(
         ≡ fresh_book (length cells.old) (regions_of regions)) × AllFormed cells.new }
 {
     lay(cells, regions.top());
-    unmark(names);
+    names.fill(false);
     book::forget(locals);
     Notes::none()
-}
-
-// "all cells zero"
-pub(crate) fn zero(cells: &mut [u64])
-    ensures { cells.new ≡ replicate (length cells.old) 0 }
-{
-    let mut i = 0;
-    while i < cells.len() {
-        cells[i] = 0;
-        i += 1;
-    }
 }

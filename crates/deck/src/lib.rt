@@ -1,23 +1,22 @@
 // The loader: document 01, "The deck".
 #![tactic(auto)]
 
-ghost use Rattle.std.specs.Prelude.{◌≡◌, true, cond, length};
+ghost use Rattle.std.specs.Prelude.{◌≡◌, true, length};
 ghost use Rattle.paper.specs.Region.{is_letter};
 ghost use Rattle.paper.specs.Record.{byte_at};
 ghost use Rattle.paper.specs.Deck.{load_word, load_routine, load_term, load_region, load_start, load_one};
 ghost use Rattle.cells.specs.Layout.{term_of};
 ghost use Rattle.regions.specs.Table.{Laid};
-ghost use Rattle.records.specs.Symbols.{name_of, record_of, parsed_of, symbols_at, Written};
+ghost use Rattle.records.specs.Symbols.{name_of, record_of, symbols_at, Written};
 ghost use Rattle.book.specs.Booked.{OnKept};
-ghost use Rattle.deck.specs.Load.{Loads, Made, Places, Sized, Lettered, AllLettered, Ends};
-ghost use Rattle.deck.specs.Load.{ordinary, one_record, one_parsed, stopped};
+ghost use Rattle.deck.specs.Load.{Loads, Made, Places, Sized, Lettered, Ends, ordinary, one_record};
 
 mod fresh;
 
-use book::{Locals, Notes};
-use fresh::{begin, zero};
-use paper::{Field, LoadAnswer, limits};
-use records::{Name, Parsed, Read, Record};
+use book::{Locals, NO_LOCALS, Notes};
+use fresh::begin;
+use paper::{Fault, Field, LoadAnswer, limits};
+use records::{Name, Record};
 use regions::Regions;
 
 // A word as its record writes it.
@@ -32,17 +31,8 @@ struct Entry {
 // What a record comes to: was it the start?
 #[derive(Clone, Copy)]
 struct Placed {
-    go: u8,
     last: bool,
     notes: Notes,
-    regions: Regions,
-}
-
-// What the records come to, and where reading stopped.
-#[derive(Clone, Copy)]
-struct Ended {
-    go: u8,
-    at: usize,
     regions: Regions,
 }
 
@@ -61,26 +51,22 @@ fn load_word(
     notes: Notes,
     name: Name,
     w: Entry,
-) -> Placed
+) -> Result<Placed, Fault>
     requires { Made regions }
     ensures { Places (ordinary (load_word (name_of name) w.p w.q w.symb w.link)) regions notes locals cells names result }
 {
-    let symb = w.symb;
-    let link = w.link;
-    let go = book::name_fits(names, locals, regions, notes, 0, true, name);
-    let go = book::known(regions, go, symb);
-    let go = book::known(regions, go, link);
-    let n = book::cell_for(cells, names, locals, regions, notes, go, name);
-    let s = book::cell_named(cells, locals, regions, n.go, symb);
-    let l = book::cell_named(cells, locals, regions, s.go, link);
-    let notes = n.notes;
-    let x = cells::of_fields(w.p, w.q, s.c, l.c);
-    Placed {
-        go: l.go,
+    book::name_fits(names, locals, regions, notes, true, name)?;
+    book::known(regions, w.symb)?;
+    book::known(regions, w.link)?;
+    let (notes, c) = book::cell_for(cells, names, locals, regions, notes, name)?;
+    let symb = book::cell_named(cells, locals, regions, w.symb)?;
+    let link = book::cell_named(cells, locals, regions, w.link)?;
+    let x = cells::of_fields(w.p, w.q, symb, link);
+    Ok(Placed {
         last: false,
-        notes: book::fill(cells, notes, n.c, x, book::is_blank(link)),
+        notes: book::fill(cells, notes, c, x, book::is_blank(w.link)),
         regions: regions,
-    }
+    })
 }
 
 // Kind 2. CR 5: "any routine word with P 0 and Q 0 whose SYMB is a process we don't have".
@@ -92,15 +78,14 @@ fn load_routine(
     notes: Notes,
     name: Name,
     w: Entry,
-) -> Placed
+) -> Result<Placed, Fault>
     requires { Made regions }
     ensures { Places (ordinary (load_routine (name_of name) w.p w.q w.symb w.link)) regions notes locals cells names result }
 {
-    let symb = w.symb;
-    let hopeless = (w.p == 0) & (w.q == 0) & book::is_missing(symb);
-    let mut t = load_word(cells, names, locals, regions, notes, name, w);
-    t.go = book::refuse_if(t.go, hopeless, 11);
-    t
+    let t = load_word(cells, names, locals, regions, notes, name, w)?;
+    let hopeless = (w.p == 0) & (w.q == 0) & book::is_missing(w.symb);
+    book::refuse_if(hopeless, Fault::Hopeless)?;
+    Ok(t)
 }
 
 // Kinds 4 and 6.
@@ -112,19 +97,17 @@ fn load_term(
     notes: Notes,
     name: Name,
     t: u64,
-) -> Placed
+) -> Result<Placed, Fault>
     requires { Made regions }
     ensures { Places (ordinary (load_term (name_of name) (term_of t))) regions notes locals cells names result }
 {
-    let go = book::name_fits(names, locals, regions, notes, 0, false, name);
-    let n = book::cell_for(cells, names, locals, regions, notes, go, name);
-    let notes = n.notes;
-    Placed {
-        go: n.go,
+    book::name_fits(names, locals, regions, notes, false, name)?;
+    let (notes, c) = book::cell_for(cells, names, locals, regions, notes, name)?;
+    Ok(Placed {
         last: false,
-        notes: book::fill(cells, notes, n.c, cells::of_term(t), false),
+        notes: book::fill(cells, notes, c, cells::of_term(t), false),
         regions: regions,
-    }
+    })
 }
 
 // Kind 5: "After loading H5 holds J4, H1 the start cell".
@@ -135,29 +118,17 @@ fn load_start(
     notes: Notes,
     b: u8,
     n: u16,
-) -> u8
+) -> Result<(), Fault>
     requires { Laid regions }
-    ensures { OnKept (load_start b n) regions notes locals.now cells 0 result tt }
+    ensures { OnKept (load_start b n) regions notes locals.now cells result }
 {
-    let go = book::refuse_if(0, notes.waiting != 0, 6);
-    let go = book::known(regions, go, Field::Regional(b, n));
-    let go = book::closes(locals, go);
+    book::refuse_if(notes.waiting != 0, Fault::BadName)?;
+    book::known(regions, Field::Regional(b, n))?;
+    book::closes(locals)?;
     let c = regions.cell_of(b, n);
     book::put(cells, limits::H5, cells::of_fields(0, 0, limits::J4, 0));
     book::put(cells, limits::H1, cells::of_fields(0, 0, c, 0));
-    go
-}
-
-// A record that is refused, with its answer number.
-fn stopped(regions: Regions, notes: Notes, number: u8) -> Placed
-    ensures { result ≡ stopped regions notes number }
-{
-    Placed {
-        go: number,
-        last: false,
-        notes: notes,
-        regions: regions,
-    }
+    Ok(())
 }
 
 // Kind 1: "Regions come first; letters H, W, J are taken."
@@ -169,21 +140,20 @@ fn load_region(
     notes: Notes,
     b: u8,
     n: u16,
-) -> Placed
+) -> Result<Placed, Fault>
     requires { Made regions × Sized cells.old names.old × (is_letter b ≡ true) }
     ensures { Places (ordinary (load_region (length cells.old) b n)) regions notes locals cells names result }
 {
-    let full = cells.len() < regions.top() + (n as usize);
+    let full = cells.len() < regions.top() + usize::from(n);
     if regions.letter_taken(b, 0) | notes.words | full {
-        return stopped(regions, notes, 5);
+        return Err(Fault::BadRegion);
     }
     let more = regions.with(b, n);
-    Placed {
-        go: 0,
+    Ok(Placed {
         last: false,
         notes: begin(cells, names, locals, more),
         regions: more,
-    }
+    })
 }
 
 fn load_record(
@@ -193,7 +163,7 @@ fn load_record(
     regions: Regions,
     notes: Notes,
     x: Record,
-) -> Placed
+) -> Result<Placed, Fault>
     requires { Made regions × Sized cells.old names.old × Lettered x }
     ensures { Places (one_record (length cells.old) (record_of x)) regions notes locals cells names result }
 {
@@ -218,33 +188,18 @@ fn load_record(
             load_word(cells, names, locals, regions, notes, name, w)
         }
         Record::Number(name, t) => load_term(cells, names, locals, regions, notes, name, t),
-        Record::Start(b, n) => Placed {
-            go: load_start(cells, locals, regions, notes, b, n),
-            last: true,
-            notes: notes,
-            regions: regions,
-        },
+        Record::Start(b, n) => {
+            load_start(cells, locals, regions, notes, b, n)?;
+            Ok(Placed {
+                last: true,
+                notes: notes,
+                regions: regions,
+            })
+        }
     }
 }
 
-fn load_parsed(
-    cells: &mut [u64],
-    names: &mut [bool],
-    locals: &mut Locals,
-    regions: Regions,
-    notes: Notes,
-    x: Parsed,
-) -> Placed
-    requires { Made regions × Sized cells.old names.old × AllLettered x }
-    ensures { Places (one_parsed (length cells.old) (parsed_of x)) regions notes locals cells names result }
-{
-    match x {
-        Parsed::Nothing => stopped(regions, notes, 4),
-        Parsed::Is(y) => load_record(cells, names, locals, regions, notes, y),
-    }
-}
-
-// "Checks go in table order on one record": 3 and 2, then the rest.
+// "Checks go in table order on one record": 3, 2, 4, then the rest.
 fn load_one(
     cells: &mut [u64],
     names: &mut [bool],
@@ -254,77 +209,70 @@ fn load_one(
     r: &[u8],
     kind: u8,
     symbols: [Field; 3],
-) -> Placed
+) -> Result<Placed, Fault>
     requires { Made regions × Sized cells.old names.old × (kind ≡ byte_at r.now 0) × Written kind r.now symbols (symbols_at r.now) }
     ensures { Places (load_one (length cells.old) kind r.now) regions notes locals cells names result }
 {
     let size = records::size_of(kind);
     if size == 0 {
-        return stopped(regions, notes, 3);
+        return Err(Fault::UnknownKind);
     }
     if r.len() < size {
-        return stopped(regions, notes, 2);
+        return Err(Fault::PastEnd);
     }
-    load_parsed(
-        cells,
-        names,
-        locals,
-        regions,
-        notes,
-        records::parse(r, kind, symbols),
-    )
+    let x = records::parse(r, kind, symbols).ok_or(Fault::BadField)?;
+    load_record(cells, names, locals, regions, notes, x)
 }
 
-// The offset of a refusal: that of its record; of a deck that is not whole (9), where reading stopped.
-fn offset(whole: bool, from: usize, at: usize) -> usize
-    ensures { result ≡ cond whole from at }
-{
-    if whole { from } else { at }
-}
-
-// One record after another, its symbols first; left at the first refusal. Then 9, "no kind 5, or bytes after it", and 11, of the start.
-fn load_records(deck: &[u8], cells: &mut [u64], names: &mut [bool], locals: &mut Locals) -> Ended
+// One record after another, its symbols first; left at the first fault, with the offset of its record. Then 9, "no kind 5, or bytes after it",
+// with that where reading stopped, and 11, of the start.
+fn load_records(
+    deck: &[u8],
+    cells: &mut [u64],
+    names: &mut [bool],
+    locals: &mut Locals,
+) -> Result<Regions, (Fault, usize)>
     requires { Sized cells.old names.old }
     ensures { Ends deck.now cells.old cells.new result }
 {
     let mut regions = Regions::none();
     let mut notes = begin(cells, names, locals, regions);
-    let mut go = 0;
     let mut last = false;
     let mut from = 0;
     let mut at = 0;
-    'deck: while (at < deck.len()) & !last {
+    let read = 'deck: loop {
+        if last | (deck.len() <= at) {
+            break Ok(());
+        }
         from = at;
         let r = &deck[at..];
         let kind = r[0];
         let mut symbols = [Field::Blank; 3];
-        let n = records::symbols_at(r);
-        let mut i = 0;
-        while i < n {
-            let Read::Symbol(f) = records::symbol(r, kind, i) else {
-                go = 4;
-                break 'deck;
+        for i in 0..records::symbols_at(r) {
+            let Some(f) = records::symbol(r, kind, i) else {
+                break 'deck Err((Fault::BadField, at));
             };
             symbols[i] = f;
-            i += 1;
         }
-        let t = load_one(cells, names, locals, regions, notes, r, kind, symbols);
-        go = t.go;
-        if go != 0 {
-            break 'deck;
+        match load_one(cells, names, locals, regions, notes, r, kind, symbols) {
+            Ok(t) => {
+                regions = t.regions;
+                notes = t.notes;
+                last = t.last;
+            }
+            Err(fault) => break Err((fault, at)),
         }
         at += records::size_of(kind);
-        regions = t.regions;
-        notes = t.notes;
-        last = t.last;
-    }
+    };
+    read?;
     let whole = last & (at == deck.len());
-    let go = book::refuse_if(go, !whole, 9);
-    Ended {
-        go: book::refuse_if(go, !book::can_start(cells, names), 11),
-        at: offset(whole, from, at),
-        regions: regions,
+    if !whole {
+        return Err((Fault::NotEnded, at));
     }
+    if !book::can_start(cells, names) {
+        return Err((Fault::Hopeless, from));
+    }
+    Ok(regions)
 }
 
 // Loads a deck into the cells. Where N is out of range nothing is written (1); any other refusal leaves all cells zero and no region.
@@ -339,18 +287,18 @@ pub fn load(deck: &[u8], cells: &mut [u64]) -> Loaded
         };
     }
     let mut names = [false; limits::LARGEST_N];
-    let mut locals = [0; limits::MANY_LOCALS];
-    let r = load_records(deck, cells, &mut names[..n], &mut locals);
-    if r.go == 0 {
-        let regions = r.regions;
-        return Loaded {
+    let mut locals = NO_LOCALS;
+    match load_records(deck, cells, &mut names[..n], &mut locals) {
+        Ok(regions) => Loaded {
             answer: LoadAnswer::Loaded,
             regions: regions,
-        };
-    }
-    zero(cells);
-    Loaded {
-        answer: LoadAnswer::Broken(book::fault(r.go), r.at),
-        regions: Regions::none(),
+        },
+        Err((fault, at)) => {
+            cells.fill(0);
+            Loaded {
+                answer: LoadAnswer::Broken(fault, at),
+                regions: Regions::none(),
+            }
+        }
     }
 }

@@ -15,16 +15,16 @@ pub slice_bounds-load_records-end : goal.slice_bounds-load_records-end
 slice_bounds-load_records-end c =
     marks-lent _ largest_n (in-range _ _ c.size_fits.ensures c.if-not-size_fits.false)
 
-pub load_records-r-requires : goal.load_records-r-requires
-load_records-r-requires c =
+pub load_records-requires : goal.load_records-requires
+load_records-requires c =
     let few = in-range _ _ c.size_fits.ensures c.if-not-size_fits.false in
     record { few = few; marks = sym (marks-lent _ largest_n few) }
 
-pub returns-then-r-eq0 : goal.returns-then-r-eq0
-returns-then-r-eq0 c =
-    loads-fine _ _ _ c.size_fits.ensures c.if-not-size_fits.false _ c.load_records-r.ensures c.if-r-eq0.true
+pub returns-in-Ok : goal.returns-in-Ok
+returns-in-Ok c =
+    loads-fine _ _ _ c.size_fits.ensures c.if-not-size_fits.false c.load_records.ensures c.in-Ok.is
 
-pub returns : goal.returns
-returns c =
-    loads-refused _ _ _ c.size_fits.ensures c.if-not-size_fits.false _ c.load_records-r.ensures _ c.fault.ensures
-    c.load_records-r.auto.cells c.zero.ensures c.none-2.ensures
+pub returns-in-Err : goal.returns-in-Err
+returns-in-Err c =
+    loads-refused _ _ _ c.size_fits.ensures c.if-not-size_fits.false c.load_records.ensures c.in-Err.is c.load_records.auto.cells
+    (c.fill.ensures.after (λ y e. e)) c.none-in-Err.ensures

@@ -1,6 +1,6 @@
 use Rattle.deck.proofs.RecordLaws.{placed-as}
 use Rattle.deck.specs.Load.{ordinary, one_record, Lettered}
-use Rattle.steps.proofs.Sequence.{give, then}
+use Rattle.steps.proofs.Sequence.{give, same_err, then, then_err}
 use Rattle.records.specs.Symbols.{name_of, record_of}
 use Rattle.paper.specs.Deck.{load_record, load_word}
 use Rattle.paper.proofs.Kit.{length, subst, sym}
@@ -32,8 +32,15 @@ unfolding ordinary one_record load_record
 returns-in-Number c =
     placed-as (λ y. one_record (length c.args.cells.now) (record_of y)) c.in-Number.is c.load_term.ensures
 
-pub returns-in-Start : goal.returns-in-Start
+pub returns-in_err-load_start-in-Start : goal.returns-in_err-load_start-in-Start
 unfolding ordinary one_record load_record
-returns-in-Start c =
+returns-in_err-load_start-in-Start c =
+    rw (same_err c.from_residual.ensures.1)
+    (placed-as (λ y. one_record (length c.args.cells.now) (record_of y)) c.in-Start.is
+    (record { did = then_err _ (c.in_err-load_start-in-Start.ensures _); made = c.requires.0 }))
+
+pub returns-in_ok-load_start-in-Start : goal.returns-in_ok-load_start-in-Start
+unfolding ordinary one_record load_record
+returns-in_ok-load_start-in-Start c =
     placed-as (λ y. one_record (length c.args.cells.now) (record_of y)) c.in-Start.is
-    (record { did = then (c.load_start.ensures _) give; made = c.requires.0 })
+    (record { did = then (c.in_ok-load_start-in-Start.ensures _) give; made = c.requires.0 })
