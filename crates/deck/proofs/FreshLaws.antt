@@ -1,6 +1,6 @@
 -- The cells before any word, and loops that fill a slice from the front.
 use Rattle.paper.proofs.Kit.{ℕ, suc, ◌+◌, ◌<◌, Bool, false, List, [], ◌∷◌, ◌≡◌, refl, ap, sym, ◌∙◌, subst, arith, ℕ_discrete, length, get_or, set, replicate}
-use Rattle.paper.proofs.Kit.{get_or-replicate, length-replicate, get_or-set_same, get_or-set_other, ext_get_or}
+use Rattle.paper.proofs.Kit.{get_or-set_same, get_or-set_other}
 use Rattle.paper.specs.Limits.{first_deck, many_locals}
 use Rattle.paper.specs.Cell.{Region, end_of_regions, Cell, word, empty_word}
 use Rattle.paper.specs.Deck.{fresh_cell, cells_from, fresh, fresh_book}

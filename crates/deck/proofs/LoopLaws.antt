@@ -1,6 +1,6 @@
 -- The record loop: what holds at its head, each way out of it, and one turn.
-use Rattle.paper.proofs.Kit.{clash, ℕ, suc, ◌+◌, ◌-◌, ◌<◌, ◌≤◌, Bool, true, false, cond, ◌&&◌, not, List, [], Option, none, some, ◌≡◌, refl, ap, sym, ◌∙◌}
-use Rattle.paper.proofs.Kit.{subst, arith, leb-true, leb-false, eqb-true, eqb-false, leb, eqb, ◌||◌, length, take, drop, set, length-drop, take_all}
+use Rattle.paper.proofs.Kit.{ℕ, suc, ◌+◌, ◌-◌, ◌<◌, ◌≤◌, Bool, true, false, cond, List, [], some, ◌≡◌, refl, ap, sym, ◌∙◌}
+use Rattle.paper.proofs.Kit.{subst, arith, length, take, drop, set, length-drop, take_all}
 use Rattle.std.specs.Prelude.{Result, Ok, Err, Option as CodeOption, Some, None, IfOk}
 use Rattle.paper.specs.declared.Fault.{Fault}
 use Rattle.paper.specs.declared.Fault.TheVariants.{BadField, NotEnded, Hopeless}
@@ -29,19 +29,18 @@ use Rattle.deck.proofs.TableLaws.{made_none}
 use Rattle.deck.proofs.ReadLaws.{Reached, at-start, ran_out, broke, last_one, next_one, closed, not-closed, whole, was-whole, not_written, is-done}
 use Rattle.deck.proofs.ReadLaws.{is-refused}
 
--- at the head of the loop, of n cells; `last`: the start has come, in the record at `from`, and reading ends here
-pub record Stands (deck : List ℕ) (n : ℕ) (l : List Local) (s : List ℕ) (m : List Bool) (r : Regions) (k : Notes) (last : Bool) (from at : ℕ) : Type 0 where
+-- at the head of the loop, of n cells
+pub record Stands (deck : List ℕ) (n : ℕ) (l : List Local) (s : List ℕ) (m : List Bool) (r : Regions) (k : Notes) (at : ℕ) : Type 0 where
   pub made : Made r
   pub cells : length s ≡ n
   pub marks : length m ≡ n
   pub formed : AllFormed s
   pub within : at ≤ length deck
-  pub reached : last ≡ false → Reached n deck at (book_of (held (regions_of r) k l s m))
-  pub over : last ≡ true → records n (suc (length deck)) 0 deck (fresh_book n []) ≡ closing from at (drop at deck) (book_of (held (regions_of r) k l s m))
+  pub reached : Reached n deck at (book_of (held (regions_of r) k l s m))
 
 pub stands-first : (deck : List ℕ) (n : ℕ) {l : List Local} {s : List ℕ} {m : List Bool} {r : Regions} {k : Notes} → r ≡ no_regions → length s ≡ n
     → length m ≡ length s → book_of (held (regions_of r) k l s m) ≡ fresh_book n (regions_of r) → AllFormed s
-    → Stands deck (length s) l s m r k false 0 0
+    → Stands deck (length s) l s m r k 0
 stands-first deck n {l} {s} {m} {r} {k} e ls lm b f =
     record {
       made = subst Made (sym e) made_none;
@@ -49,8 +48,7 @@ stands-first deck n {l} {s} {m} {r} {k} e ls lm b f =
       marks = lm;
       formed = f;
       within = omega arith;
-      reached = λ _. at-start (length s) deck _ (b ∙ (λ i. fresh_book (sym ls i) (empty i)));
-      over = λ e. clash cc;
+      reached = at-start (length s) deck _ (b ∙ (λ i. fresh_book (sym ls i) (empty i)));
     }
   where
     empty : regions_of r ≡ []
@@ -68,30 +66,6 @@ ends deck s₀ {s} {q = q} e c f t =
 -- whether a run can begin, by the cells and the names
 abbrev pub Begins : List ℕ → List Bool → Bool → Type 0
 Begins s m b = (rs : List PaperRegion) (k : Notes) (l : List Local) → b ≡ can_start (book_of (held rs k l s m))
-
--- behind the loop, by what it broke with: a fault; or reading ended there, with a whole deck or not
-pub record Leaves (deck : List ℕ) (n : ℕ) (s : List ℕ) (m : List Bool) (r : Regions) (last : Bool) (from at : ℕ) (q : Result (Unit {0}) (Fault × ℕ)) : Type 0 where
-  pub formed : AllFormed s
-  pub broke : (f : Fault × ℕ) → q ≡ Err f → Comes deck n (Err f) s
-  pub cut : (v : Unit {0}) → q ≡ Ok v → (last && eqb at (length deck)) ≡ false → Comes deck n (Err (NotEnded, at)) s
-  pub whole : (v : Unit {0}) → q ≡ Ok v → (last && eqb at (length deck)) ≡ true → (b : Bool) → Begins s m b
-      → Comes deck n (cond b (Ok r) (Err (Hopeless, from))) s
-
--- the same in other words
-pub leaves-as : {deck : List ℕ} {n : ℕ} {s s' : List ℕ} {m m' : List Bool} {r : Regions} {last : Bool} {from from' at : ℕ} {q q' : Result (Unit {0}) (Fault × ℕ)}
-    → s' ≡ s → m' ≡ m → from' ≡ from → q' ≡ q → Leaves deck n s m r last from at q → Leaves deck n s' m' r last from' at q'
-leaves-as {deck} {n} {s} {s'} {m} {m'} {r} {last} {from} {from'} {at} {q} {q'} a b c d w =
-    subst (λ (x : List ℕ × List Bool × ℕ × Result (Unit {0}) (Fault × ℕ)). Leaves deck n x.0 x.1 r last x.2 at x.3) (λ i. (sym a i, sym b i, sym c i, sym d i)) w
-
-leaves-broken : {deck : List ℕ} {n : ℕ} {s : List ℕ} {m : List Bool} {r : Regions} {last : Bool} {from at : ℕ} (f : Fault × ℕ) → AllFormed s
-    → Comes deck n (Err f) s → Leaves deck n s m r last from at (Err f)
-leaves-broken {deck} {n} {s} f g c =
-    record {
-      formed = g;
-      broke = λ e p. let h : f ≡ e = cc in subst (λ (x : Fault × ℕ). Comes deck n (Err x) s) h c;
-      cut = λ v p. clash cc;
-      whole = λ v p. clash cc;
-    }
 
 -- the part of a deck from an offset on, as the code has it
 abbrev pub part_at : List ℕ → ℕ → List ℕ
@@ -120,55 +94,28 @@ lettered x r e = go x (subst OptionOk (sym e) (record-ok r))
     go (Number name v) h = tt
     go (Start b n) h = tt
 
--- the loop goes on
-pub at-hand : (at n : ℕ) (last : Bool) → (last || leb n at) ≡ false → (at < n) × (last ≡ false)
-at-hand at n true h = clash cc
-at-hand at n false h = (omega (arith, leb-false n at h), refl)
-
-module _ {deck : List ℕ} {n : ℕ} {l : List Local} {s : List ℕ} {m : List Bool} {r : Regions} {k : Notes} {last : Bool} {from at : ℕ}
-    (w : Stands deck n l s m r k last from at) where
+module _ {deck : List ℕ} {n : ℕ} {l : List Local} {s : List ℕ} {m : List Bool} {r : Regions} {k : Notes} {at : ℕ} (w : Stands deck n l s m r k at) where
   abbrev here : Book
   here = book_of (held (regions_of r) k l s m)
 
-  -- no record is left, or the start has come
-  pub leaves-end : (last || leb (length deck) at) ≡ true → Leaves deck n s m r last from at (Ok tt)
-  leaves-end h =
-      record { formed = w.formed; broke = λ f p. clash cc; cut = λ v p g. cut-off last refl h g; whole = λ v p g b f. entire b f last refl g }
-    where
-      cut-off : (y : Bool) → last ≡ y → (y || leb (length deck) at) ≡ true → (y && eqb at (length deck)) ≡ false → Comes deck n (Err (NotEnded, at)) s
-      cut-off true e h g = ap (ending n) (w.over e ∙ not-closed n deck from at here (omega (arith, w.within, eqb-false at (length deck) g)))
-      cut-off false e h g = ap (ending n) (ran_out n deck (w.reached e) (leb-true (length deck) at h))
-
-      closing-as : (b : Bool) → ending n (cond b (complete here) (broken Hopeless from)) ≡ outcome_of n (cond b (Ok r) (Err (Hopeless, from))) s
-      closing-as true = refl
-      closing-as false = refl
-
-      entire : (b : Bool) → Begins s m b → (y : Bool) → last ≡ y → (y && eqb at (length deck)) ≡ true → Comes deck n (cond b (Ok r) (Err (Hopeless, from))) s
-      entire b f true e g =
-          ap (ending n)
-          (w.over e ∙ closed n deck from at here (omega (arith, eqb-true at (length deck) g))
-          ∙ ap (λ (x : Bool). cond x (complete here) (broken Hopeless from)) (sym (f _ k l)))
-          ∙ closing-as b
-      entire b f false e g = clash cc
+  -- no record is left
+  pub none-at-hand : at ≡ length deck → Comes deck n (Err (NotEnded, at)) s
+  none-at-hand e = ap (ending n) (ran_out n deck w.reached (omega (arith, e)))
 
   -- a record is at hand: rec, the part of the deck from here on
-  module _ (h : (last || leb (length deck) at) ≡ false) (rec : List ℕ) (part : rec ≡ drop at deck) where
-    abbrev left_over : (at < length deck) × (last ≡ false)
-    left_over = at-hand at (length deck) last h
-
+  module _ (h : at < length deck) (rec : List ℕ) (part : rec ≡ drop at deck) where
     in-deck : (q : Res Book Fault Bool) → load_one n (byte_at rec 0) rec here ≡ q → load_one n (byte_at (drop at deck) 0) (drop at deck) here ≡ q
     in-deck q p = subst (λ (y : List ℕ). load_one n (byte_at y 0) y here ≡ q) part p
 
     fails : (f : Fault) (t : List ℕ) → load_one n (byte_at rec 0) rec here ≡ refused f → Comes deck n (Err (f, at)) t
-    fails f t p = ap (ending n) (broke n deck (w.reached left_over.1) left_over.0 (in-deck (refused f) p))
+    fails f t p = ap (ending n) (broke n deck w.reached h (in-deck (refused f) p))
 
-    pub leaves-field : (i : ℕ) (x : CodeOption Field) → i < symbols_at rec → option_of x ≡ field_at rec (place_of (byte_at rec 0) i) → x ≡ None
-        → Leaves deck n s m r last at at (Err (BadField, at))
-    leaves-field i x g e p =
+    pub bad-field : (i : ℕ) (x : CodeOption Field) → i < symbols_at rec → option_of x ≡ field_at rec (place_of (byte_at rec 0) i) → x ≡ None
+        → Comes deck n (Err (BadField, at)) s
+    bad-field i x g e p =
         let v = has-symbol rec i g in
-        leaves-broken _ w.formed
-        (fails BadField s (whole n (byte_at rec 0) rec here v.0 v.1
-        ∙ not_written n (record_at rec) here (bad-symbol rec (byte_at rec 0) i refl v.2 (sym e ∙ ap option_of p))))
+        fails BadField s (whole n (byte_at rec 0) rec here v.0 v.1
+        ∙ not_written n (record_at rec) here (bad-symbol rec (byte_at rec 0) i refl v.2 (sym e ∙ ap option_of p)))
 
     -- the record was placed or refused
     module _ {l' : List Local} {s' : List ℕ} {m' : List Bool} {q : Result Placed Fault}
@@ -177,10 +124,11 @@ module _ {deck : List ℕ} {n : ℕ} {l : List Local} {s : List ℕ} {m : List B
       did j p =
           subst (λ (x : ℕ × Result Placed Fault). PlacesIn (load_one x.0 (byte_at rec 0) rec) r k l s m l' s' m' x.1) (λ i. (w.cells i, p i)) d
 
-      pub leaves-refused : {f : Fault} → q ≡ Err f → Leaves deck n s' m' r last at at (Err (f, at))
-      leaves-refused {f} p =
-          let e = (did (Err f) p).did in
-          leaves-broken _ (e.kept w.formed) (fails f s' (is-refused e))
+      pub still_formed : AllFormed s'
+      still_formed = d.did.kept w.formed
+
+      pub refuses : {f : Fault} → q ≡ Err f → Comes deck n (Err (f, at)) s'
+      refuses {f} p = fails f s' (is-refused (did (Err f) p).did)
 
       -- placed: reading goes on past it
       module _ {t : Placed} (fine : q ≡ Ok t) (size : ℕ) (e : size ≡ size_of (byte_at rec 0)) where
@@ -191,7 +139,7 @@ module _ {deck : List ℕ} {n : ℕ} {l : List Local} {s : List ℕ} {m : List B
         was = was-whole n (byte_at rec 0) rec here (is-done (did (Ok t) fine).did)
 
         pub reads_on : at + size ≤ length deck
-        reads_on = omega (arith, was.1, ap length part, length-drop at deck, left_over.0, e)
+        reads_on = omega (arith, was.1, ap length part, length-drop at deck, e)
 
         loaded : (x : Bool) → t.last ≡ x → load_one n (byte_at (drop at deck) 0) (drop at deck) here ≡ done x there
         loaded x p = in-deck (done x there) (is-done (did (Ok t) fine).did ∙ ap (λ (y : Bool). done y there) p)
@@ -205,16 +153,36 @@ module _ {deck : List ℕ} {n : ℕ} {l : List Local} {s : List ℕ} {m : List B
         pub further : at < at + size
         further = omega (arith, some_read)
 
-        pub goes-round : length s' ≡ length s → length m' ≡ length m → Stands deck n l' s' m' t.regions t.notes t.last at (at + size)
-        goes-round ls lm =
+        pub table_made : t.regions ≡ table_of (regions_of t.regions)
+        table_made = (did (Ok t) fine).made.made
+
+        pub goes-round : t.last ≡ false → length s' ≡ length s → length m' ≡ length m → Stands deck n l' s' m' t.regions t.notes (at + size)
+        goes-round p ls lm =
             record {
               made = (did (Ok t) fine).made;
               cells = ls ∙ w.cells;
               marks = lm ∙ w.marks;
-              formed = (did (Ok t) fine).did.kept w.formed;
+              formed = still_formed;
               within = reads_on;
-              reached = λ q. subst (λ (x : ℕ). Reached n deck (at + x) there) (sym size_is)
-                  (next_one n deck (w.reached left_over.1) left_over.0 (loaded false q) (λ y. some_read (size_is ∙ y)));
-              over = λ q. last_one n deck (w.reached left_over.1) left_over.0 (loaded true q)
-                  ∙ ap (λ (x : ℕ). closing at (at + x) (drop (at + x) deck) there) (sym size_is);
+              reached = subst (λ (x : ℕ). Reached n deck (at + x) there) (sym size_is)
+                  (next_one n deck w.reached h (loaded false p) (λ y. some_read (size_is ∙ y)));
             }
+
+        -- it was the start
+        module _ (p : t.last ≡ true) where
+          over : ending n (records n (suc (length deck)) 0 deck (fresh_book n [])) ≡ ending n (closing at (at + size) (drop (at + size) deck) there)
+          over = ap (ending n) (last_one n deck w.reached h (loaded true p) ∙ ap (λ (x : ℕ). closing at (at + x) (drop (at + x) deck) there) (sym size_is))
+
+          pub not-ended : at + size < length deck → Comes deck n (Err (NotEnded, at + size)) s'
+          not-ended g = over ∙ ap (ending n) (not-closed n deck at (at + size) there g)
+
+          ended : (b : Bool) → length deck ≤ at + size → Begins s' m' b
+              → ending n (records n (suc (length deck)) 0 deck (fresh_book n [])) ≡ ending n (cond b (complete there) (broken Hopeless at))
+          ended b g f =
+              over ∙ ap (ending n) (closed n deck at (at + size) there g ∙ ap (λ (x : Bool). cond x (complete there) (broken Hopeless at)) (sym (f _ t.notes l')))
+
+          pub hopeless : length deck ≤ at + size → Begins s' m' false → Comes deck n (Err (Hopeless, at)) s'
+          hopeless g f = ended false g f
+
+          pub completes : length deck ≤ at + size → Begins s' m' true → Comes deck n (Ok t.regions) s'
+          completes g f = ended true g f

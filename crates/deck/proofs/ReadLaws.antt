@@ -4,7 +4,7 @@ use Rattle.paper.proofs.Kit.{ne_eqb, lt-ltb, le-ltb, ltb-true, ltb-false, ltb, l
 use Rattle.std.specs.Prelude.{Result, Ok, Err}
 use Rattle.paper.specs.declared.Fault.{Fault}
 use Rattle.paper.specs.declared.Fault.TheVariants.{PastEnd, UnknownKind, BadField, NotEnded, Hopeless}
-use Rattle.paper.specs.Step.{Res, done, refused, ◌>>=◌, ◌>>◌, refuse, refuse_if, ret}
+use Rattle.paper.specs.Step.{Res, done, refused, ◌>>=◌, ◌>>◌, refuse, refuse_if}
 use Rattle.paper.specs.Record.{Record, byte_at, size_of, record_at}
 use Rattle.paper.specs.Deck.{Book, Load, Ended, complete, broken, on_res, can_start, closing, records, fresh_book, load_one, well_formed}
 use Rattle.steps.proofs.Sequence.{alike-here, bind, give}

@@ -42,6 +42,8 @@ pub struct Loaded {
     pub regions: Regions,
 }
 
+// Cells, names and locals are lent one by one: a struct of them would cost each contract a second clause, that the references stay the same.
+
 // Kinds 2 and 3; cells "in the order NAME, SYMB, LINK".
 fn load_word(
     cells: &mut [u64],
@@ -65,7 +67,7 @@ fn load_word(
     Ok(Placed {
         last: false,
         notes: book::fill(cells, notes, c, x, book::is_blank(w.link)),
-        regions: regions,
+        regions,
     })
 }
 
@@ -106,7 +108,7 @@ fn load_term(
     Ok(Placed {
         last: false,
         notes: book::fill(cells, notes, c, cells::of_term(t), false),
-        regions: regions,
+        regions,
     })
 }
 
@@ -170,20 +172,15 @@ fn load_record(
     match x {
         Record::Region(b, n) => load_region(cells, names, locals, regions, notes, b, n),
         Record::Routine(name, p, q, symb, link) => {
-            let w = Entry {
-                p: p,
-                q: q,
-                symb: symb,
-                link: link,
-            };
+            let w = Entry { p, q, symb, link };
             load_routine(cells, names, locals, regions, notes, name, w)
         }
         Record::Datum(name, symb, link) => {
             let w = Entry {
                 p: 0,
                 q: book::data_tag(symb),
-                symb: symb,
-                link: link,
+                symb,
+                link,
             };
             load_word(cells, names, locals, regions, notes, name, w)
         }
@@ -192,8 +189,8 @@ fn load_record(
             load_start(cells, locals, regions, notes, b, n)?;
             Ok(Placed {
                 last: true,
-                notes: notes,
-                regions: regions,
+                notes,
+                regions,
             })
         }
     }
@@ -224,8 +221,8 @@ fn load_one(
     load_record(cells, names, locals, regions, notes, x)
 }
 
-// One record after another, its symbols first; left at the first fault, with the offset of its record. Then 9, "no kind 5, or bytes after it",
-// with that where reading stopped, and 11, of the start.
+// One record after another, its symbols first; left at the first fault, with the offset of its record. Behind the start come 9, "no kind 5, or
+// bytes after it", with the offset where reading stopped, and 11.
 fn load_records(
     deck: &[u8],
     cells: &mut [u64],
@@ -237,14 +234,11 @@ fn load_records(
 {
     let mut regions = Regions::none();
     let mut notes = begin(cells, names, locals, regions);
-    let mut last = false;
-    let mut from = 0;
     let mut at = 0;
-    let read = 'deck: loop {
-        if last | (deck.len() <= at) {
-            break Ok(());
+    'deck: loop {
+        if at == deck.len() {
+            break Err((Fault::NotEnded, at));
         }
-        from = at;
         let r = &deck[at..];
         let kind = r[0];
         let mut symbols = [Field::Blank; 3];
@@ -254,25 +248,24 @@ fn load_records(
             };
             symbols[i] = f;
         }
-        match load_one(cells, names, locals, regions, notes, r, kind, symbols) {
-            Ok(t) => {
-                regions = t.regions;
-                notes = t.notes;
-                last = t.last;
-            }
+        let t = match load_one(cells, names, locals, regions, notes, r, kind, symbols) {
+            Ok(t) => t,
             Err(fault) => break Err((fault, at)),
-        }
+        };
+        let from = at;
         at += records::size_of(kind);
-    };
-    read?;
-    let whole = last & (at == deck.len());
-    if !whole {
-        return Err((Fault::NotEnded, at));
+        if t.last {
+            if at < deck.len() {
+                break Err((Fault::NotEnded, at));
+            }
+            if !book::can_start(cells, names) {
+                break Err((Fault::Hopeless, from));
+            }
+            break Ok(t.regions);
+        }
+        regions = t.regions;
+        notes = t.notes;
     }
-    if !book::can_start(cells, names) {
-        return Err((Fault::Hopeless, from));
-    }
-    Ok(regions)
 }
 
 // Loads a deck into the cells. Where N is out of range nothing is written (1); any other refusal leaves all cells zero and no region.
@@ -291,7 +284,7 @@ pub fn load(deck: &[u8], cells: &mut [u64]) -> Loaded
     match load_records(deck, cells, &mut names[..n], &mut locals) {
         Ok(regions) => Loaded {
             answer: LoadAnswer::Loaded,
-            regions: regions,
+            regions,
         },
         Err((fault, at)) => {
             cells.fill(0);

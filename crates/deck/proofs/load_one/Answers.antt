@@ -1,7 +1,7 @@
 use Rattle.deck.proofs.ReadLaws.{stops, unknown, cut_off, whole, not_written, placed-whole}
 use Rattle.deck.proofs.LoopLaws.{lettered}
 use Rattle.records.specs.Symbols.{Written, option_of, record_of}
-use Rattle.std.specs.Prelude.{Option, Some, None, option_map, Ok, Err}
+use Rattle.std.specs.Prelude.{Option, None, option_map, Err}
 use Rattle.std.specs.Option.{ok_or}
 use Rattle.records.specs.declared.Record.{Record}
 use Rattle.paper.specs.declared.Fault.{Fault}

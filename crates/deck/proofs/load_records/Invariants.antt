@@ -7,7 +7,7 @@ abbrev pub invariant-loop-i : goal.invariant-loop-i
 invariant-loop-i l = (length l.symbols ≡ 3) × Written l.kind l.r l.symbols l.i
 
 abbrev pub invariant-deck : goal.invariant-deck
-invariant-deck l = Stands l.deck (length l.initial.cells) l.locals l.cells l.names l.regions l.notes l.last l.from l.at
+invariant-deck l = Stands l.deck (length l.initial.cells) l.locals l.cells l.names l.regions l.notes l.at
 
 abbrev pub decreases-deck : goal.decreases-deck
 decreases-deck l = length l.deck - l.at
