@@ -1,20 +1,19 @@
 -- A plain action by what its code did: the answers 1 and 20, and an action that was done or undone.
-use Rattle.paper.proofs.Kit.{ℕ, ◌≤◌, ◌≡◌, refl, sym, ap, ◌∙◌, Bool, true, false, List, [], Option, none, some, length}
+use Rattle.paper.proofs.Kit.{ℕ, ◌≤◌, ◌≡◌, refl, sym, ap, ◌∙◌, Bool, true, false, List, [], some, length}
+use Rattle.std.specs.Prelude.{Result, Ok, Err}
 use Rattle.paper.specs.declared.Refusal.{Refusal}
 use Rattle.paper.specs.declared.RunAnswer.{RunAnswer}
 use Rattle.paper.specs.declared.RunAnswer.TheVariants.{Finished, BadSize, NotSound, Refused as Stopped}
 use Rattle.paper.specs.Cell.{State, size_fits}
 use Rattle.paper.specs.Sound.{sound}
-use Rattle.paper.specs.Act.{Act, ◌>>◌, ret, refuse}
+use Rattle.paper.specs.Act.{Act}
 use Rattle.paper.specs.Plain.{acted, after_act, plainly}
 use Rattle.cells.specs.Pack.{AllFormed}
 use Rattle.cells.specs.Bridge.{unpacked}
 use Rattle.cells.proofs.Store.{unpacked-length, packed-unpacked}
-use Rattle.steps.specs.Follows.{Follows, left}
-use Rattle.undo.specs.Verdict.{told}
+use Rattle.steps.specs.Follows.{Follows, outcome}
 use Rattle.undo.specs.Log.{Begun}
 use Rattle.undo.specs.Did.{Top, lent}
-use Rattle.undo.proofs.Verdict.{told-done}
 use Rattle.regions.specs.declared.Regions.{Regions}
 use Rattle.regions.specs.Table.{regions_of}
 use Rattle.sound.specs.Store.{state_with, store_sound}
@@ -57,20 +56,17 @@ module _ (m : Act (Unit {0})) (r : Regions) (s : List ℕ) where
     done-or-not = ap in_numbers (sym (says-acts p.size (passed-sound r s [] 0 p.sound))) ∙ plain-acts p.size p.sound
 
     module _ {k : ℕ} {l s₁ l₁ : List ℕ} where
-      came : {a : Option Refusal} → Follows lent (Top top) k m (s, l) (told 0) (s₁, l₁) a tt → m st ≡ (left a >> ret tt) (state_with r s₁ [] 0)
-      unfolding left ◌>>◌ ret
-      came d =
-          ap (λ b. (left b >> m) st) (sym (told-done 0 refl))
-          ∙ (d.is (record { regions = regions_of r; lines = []; room = 0 }) p.end).is
+      came : {a : Result (Unit {0}) Refusal} → Follows lent (Top top) k m (s, l) (s₁, l₁) a → m st ≡ outcome a (state_with r s₁ [] 0)
+      came d = d.is (record { regions = regions_of r; lines = []; room = 0 }) p.end
 
       -- an action that was done leaves its cells; one that was refused, the numbers as they were
-      pub plain-settled : Begun s l → (a : Option Refusal) → Follows lent (Top top) k m (s, l) (told 0) (s₁, l₁) a tt → settled_as a l₁ s₁ ≡ plain_on m r s
-      unfolding left ◌>>◌ ret refuse after_act
-      plain-settled b none d =
+      pub plain-settled : Begun s l → (a : Result (Unit {0}) Refusal) → Follows lent (Top top) k m (s, l) (s₁, l₁) a → settled_as a l₁ s₁ ≡ plain_on m r s
+      unfolding after_act
+      plain-settled b (Ok v) d =
           ap (numbers Finished) (sym (packed-unpacked s₁ (d.kept.formed (passed-formed r s p.sound))))
           ∙ ap (λ x. in_numbers (after_act st x)) (sym (came d)) ∙ done-or-not
-      plain-settled b (some q) d =
-          ap (numbers (Stopped q)) (d.kept.back ∙ b.back ∙ sym (packed-unpacked s (passed-formed r s p.sound)))
+      plain-settled b (Err e) d =
+          ap (numbers (Stopped e)) (d.kept.back ∙ b.back ∙ sym (packed-unpacked s (passed-formed r s p.sound)))
           ∙ ap (λ x. in_numbers (after_act st x)) (sym (came d)) ∙ done-or-not
 
   -- numbers and a table in form: `plainly` itself, whatever the store

@@ -1,50 +1,24 @@
 -- A walk by what its code did: the answers 1 and 20, the cells met, or a refusal.
-use Rattle.paper.proofs.Kit.{ℕ, suc, ◌+◌, ◌-◌, ◌<◌, ◌≤◌, ◌≡◌, refl, sym, ap, ◌∙◌, List, [], ◌∷◌, ◌++◌, reverse-reverse, Bool, true, false, Option, some}
-use Rattle.paper.proofs.Kit.{add-one, arith, length, get_or, take, set, replicate, length-take-le, take-suc, append_snoc, set_at}
-use Rattle.paper.specs.Limits.{largest_n}
+use Rattle.paper.proofs.Kit.{ℕ, ◌≤◌, ◌≡◌, refl, sym, ap, ◌∙◌, List, [], reverse-reverse, Bool, true, false, some}
+use Rattle.paper.proofs.Kit.{arith, length, take, length-take-le}
+use Rattle.std.specs.Prelude.{Result, Ok, Err}
 use Rattle.paper.specs.declared.RunAnswer.{RunAnswer}
 use Rattle.paper.specs.declared.RunAnswer.TheVariants.{Finished, Refused as Stopped}
 use Rattle.paper.specs.declared.Refusal.{Refusal}
 use Rattle.paper.specs.Cell.{State, size_fits}
-use Rattle.paper.specs.Act.{◌>>◌, ret, refuse}
 use Rattle.paper.specs.Walk.{walk_back}
 use Rattle.paper.specs.Plain.{walked, after_walk, walk_call}
 use Rattle.cells.specs.Pack.{AllFormed}
-use Rattle.steps.specs.Follows.{left}
-use Rattle.undo.specs.Verdict.{told}
-use Rattle.undo.proofs.Verdict.{told-done}
+use Rattle.steps.specs.Follows.{outcome}
 use Rattle.regions.specs.declared.Regions.{Regions}
 use Rattle.regions.specs.Table.{regions_of}
 use Rattle.sound.specs.Store.{state_with, store_sound}
 use Rattle.sound.specs.Asked.{unfit, Passed}
-use Rattle.sound.proofs.SoundLaws.{passed-sound, in-form}
+use Rattle.sound.proofs.SoundLaws.{size-range, passed-sound, in-form}
 use Rattle.sound.proofs.AskLaws.{unfit-size, unfit-unsound, fit}
-use Rattle.structures.specs.declared.Walked.{Walked}
-use Rattle.structures.specs.Marks.{back}
-use Rattle.structures.specs.Walks.{Lists}
+use Rattle.structures.specs.Walks.{Lists, met_in}
 use Rattle.plain.specs.Walks.{padded, met_of, walk_on}
 use Rattle.plain.proofs.Settled.{size_is}
-
--- the first i of the order, and zeros
-abbrev pub up_to : ℕ → List ℕ → List ℕ
-up_to i order = take i order ++ replicate (largest_n - i) 0
-
-one_less : (i : ℕ) → i < largest_n → replicate {A = ℕ} (largest_n - i) 0 ≡ 0 ∷ replicate (largest_n - suc i) 0
-one_less i h = let e : largest_n - i ≡ suc (largest_n - suc i) = omega arith in ap (λ k. replicate {A = ℕ} k 0) e
-
-module _ (order : List ℕ) (sized : length order ≡ largest_n) where
-  -- one cell more
-  pub one_more : (i : ℕ) → i < largest_n → set (up_to i order) i (get_or order i 0) ≡ up_to (i + 1) order
-  one_more i h =
-      rw add-one
-      (ap (λ l. set (take i order ++ l) i (get_or order i 0)) (one_less i h)
-      ∙ set_at (take i order) 0 _ _ i (length-take-le i order (omega arith))
-      ∙ sym (append_snoc (take i order) _ _)
-      ∙ ap (λ l. l ++ replicate (largest_n - suc i) 0) (sym (take-suc order i 0 (omega arith))))
-
-  -- all of them
-  pub all-met : (n : ℕ) → n ≤ largest_n → up_to n order ≡ padded (take n order)
-  all-met n h = ap (λ k. take n order ++ replicate (largest_n - k) 0) (sym (length-take-le n order (omega arith)))
 
 module _ (c : ℕ) (r : Regions) (s : List ℕ) where
   pub walk-unfit : {a : RunAnswer} → unfit r s ≡ some a → met_of (walked a []) ≡ walk_on c r s
@@ -64,28 +38,24 @@ module _ (c : ℕ) (r : Regions) (s : List ℕ) where
     unfolding walk_on
     walks = ap met_of (sym says-walk) ∙ rw (fit r s p.size p.sound, walk_on)
 
-    module _ {order marks : List ℕ} {w : Walked} (l : Lists (walk_back c) s 0 order marks w) where
-      read : {a : Option Refusal} → told w.go ≡ a → walk_back c st ≡ (left a >> ret (back w.n order)) st
-      unfolding left ◌>>◌ ret
-      read e =
-          ap (λ b. (left b >> walk_back c) st) (sym (told-done 0 refl))
-          ∙ (l.says.is (record { regions = regions_of r; lines = []; room = 0 }) tt).is
-          ∙ ap (λ b. (left b >> ret (back w.n order)) st) e
+    module _ {order : List ℕ} where
+      read : {a : Result ℕ Refusal} → Lists (walk_back c) s order a → walk_back c st ≡ outcome (met_in order a) st
+      read l = l.says.is (record { regions = regions_of r; lines = []; room = 0 }) tt
 
       -- the cells met stand in the order, last first in the definition
-      pub walk-done : w.go ≡ 0 → w.n ≤ largest_n → {cells : List ℕ} → cells ≡ padded (take w.n order)
-          → record { answer = Finished; n = w.n; cells = cells } ≡ walk_on c r s
-      unfolding left ◌>>◌ ret after_walk
-      walk-done e few f =
-          ap (λ xs. record { answer = Finished; n = w.n; cells = xs }) f
-          ∙ ap (λ n. record { answer = Finished; n = n; cells = padded (take w.n order) })
-          (sym (length-take-le w.n order (omega (arith, l.ordered.sized))))
-          ∙ ap (λ xs. met_of (walked Finished xs)) (sym (reverse-reverse (take w.n order)))
-          ∙ ap (λ x. met_of (after_walk x)) (sym (read (told-done w.go e))) ∙ walks
+      pub walk-done : {n : ℕ} → Lists (walk_back c) s order (Ok n) → {cells : List ℕ} → cells ≡ padded (take n order)
+          → record { answer = Finished; n = n; cells = cells } ≡ walk_on c r s
+      unfolding after_walk
+      walk-done {n} l f =
+          ap (λ xs. record { answer = Finished; n = n; cells = xs }) f
+          ∙ ap (λ n'. record { answer = Finished; n = n'; cells = padded (take n order) })
+          (sym (length-take-le n order (omega (arith, l.listed, size-range (length s) p.size))))
+          ∙ ap (λ xs. met_of (walked Finished xs)) (sym (reverse-reverse (take n order)))
+          ∙ ap (λ x. met_of (after_walk x)) (sym (read l)) ∙ walks
 
-      pub walk_refused : {q : Refusal} → told w.go ≡ some q → met_of (walked (Stopped q) []) ≡ walk_on c r s
-      unfolding left ◌>>◌ ret refuse after_walk
-      walk_refused e = ap (λ x. met_of (after_walk x)) (sym (read e)) ∙ walks
+      pub walk_refused : {e : Refusal} → Lists (walk_back c) s order (Err e) → met_of (walked (Stopped e) []) ≡ walk_on c r s
+      unfolding after_walk
+      walk_refused l = ap (λ x. met_of (after_walk x)) (sym (read l)) ∙ walks
 
   -- numbers and a table in form: `walk_call` itself, whatever the store
   module _ (n : r.n ≤ 23) (f : AllFormed s) where

@@ -2,21 +2,20 @@
 // asks, 1 and then 20; refused, it leaves every number as it was.
 #![tactic(auto)]
 
-ghost use Rattle.std.specs.Prelude.{◌≡◌, ◌+◌, ◌*◌, ◌≤◌, [], length, take};
+ghost use Rattle.std.specs.Prelude.{◌≡◌, ◌+◌, ◌≤◌, [], length};
 ghost use Rattle.paper.specs.Limits.{largest_n};
+ghost use Rattle.paper.specs.Act.{Act};
 ghost use Rattle.paper.specs.Plain.{preserve_h0, walked};
 ghost use Rattle.paper.specs.Process.{J72, J74};
-ghost use Rattle.undo.specs.Verdict.{told};
 ghost use Rattle.undo.specs.Log.{Room};
 ghost use Rattle.undo.specs.Did.{Top, Suits, Did};
-ghost use Rattle.structures.specs.Walks.{Clean};
-ghost use Rattle.plain.specs.Numbers.{numbers, plain_on, settled_as, action_of};
+ghost use Rattle.structures.specs.Walks.{InRange};
+ghost use Rattle.plain.specs.Numbers.{numbers, plain_on, settled_as};
 ghost use Rattle.plain.specs.Walks.{padded, met_of, walk_on};
 
-use paper::{RunAnswer, Symbol, limits};
+use paper::{Refusal, RunAnswer, Symbol, limits};
 use regions::Regions;
-use sound::Asked;
-use structures::{Marks, Order};
+use structures::{Order, Scratch};
 
 // A copy makes a write a cell and three more; the log takes two numbers a write, one to count them and four for the cells it saves.
 const LOG: usize = 2 * (limits::LARGEST_N + 3) + 5;
@@ -25,56 +24,40 @@ const LOG: usize = 2 * (limits::LARGEST_N + 3) + 5;
 const UNREAD: u64 = undo::UNREAD as u64;
 
 // What was refused is undone.
-fn settle(cells: &mut [u64], log: &[u64], go: u32) -> RunAnswer
+fn settle(cells: &mut [u64], log: &[u64], outcome: Result<(), Refusal>) -> RunAnswer
     requires { Room log.now 0 }
-    ensures { numbers result cells.new ≡ settled_as (told go) log.now cells.old }
+    ensures { numbers result cells.new ≡ settled_as outcome log.now cells.old }
 {
-    if go == 0 {
-        return RunAnswer::Finished;
+    match outcome {
+        Ok(()) => RunAnswer::Finished,
+        Err(e) => {
+            undo::rewind(cells, log);
+            RunAnswer::Refused(e)
+        }
     }
-    undo::rewind(cells, log);
-    RunAnswer::Refused(undo::refusal(go))
 }
 
-// The three actions.
-#[derive(Clone, Copy)]
-enum Action {
-    Preserve,
-    Copy,
-    Erase,
-}
-
-fn act(
+// An action outside any cycle: what the store is asked first, the action itself, and its end.
+fn plainly<F: Fn(&mut [u64], &mut [u64], &mut Scratch, u16) -> Result<(), Refusal>>(
     cells: &mut [u64],
-    log: &mut [u64],
-    order: &mut Order,
-    marks: &mut Marks,
-    what: Action,
-    top: u16,
-) -> u32
-    requires { Clean cells.old order.old marks.old × Suits log.old (length cells.old + 3) top }
-    ensures { Did (Top top) (length cells.old + 3) (action_of what) cells log 0 result tt }
+    regions: Regions,
+    act: F,
+) -> RunAnswer
+    ghost does: { Act (Unit {0}) }
+    requires callable { (x y : _) (w : _) (top : _) → InRange x.now × Suits y.now (length x.now + 3) top
+        → F.pre act x y w top }
+    requires follows { (x y : _) (w : _) (top : _) (r : _) (x' y' : _) (w' : _) → F.post act x y w top r x' y' w'
+        → Did (Top top) (length x.now + 3) does record { entry = x; exit = x' } record { entry = y; exit = y' } r }
+    ensures { numbers result cells.new ≡ plain_on does regions cells.old }
 {
-    match what {
-        Action::Preserve => acts::preserve(cells, log, 0, limits::H0),
-        Action::Copy => structures::j74(cells, log, order, marks, 0, top),
-        Action::Erase => structures::j72(cells, log, order, marks, 0, top),
-    }
-}
-
-fn plainly(cells: &mut [u64], regions: Regions, what: Action) -> RunAnswer
-    ensures { numbers result cells.new ≡ plain_on (action_of what) regions cells.old }
-{
-    let q = sound::asks(cells, regions);
-    match q {
-        Asked::Not(a) => a,
-        Asked::Top(top) => {
+    match sound::asks(cells, regions) {
+        Err(answer) => answer,
+        Ok(top) => {
             let mut log = [UNREAD; LOG];
-            let mut order = [undo::UNREAD; limits::LARGEST_N];
-            let mut marks = [0u16; structures::MANY_NUMBERS];
+            let mut scratch = Scratch::new();
             undo::begin(cells, &mut log);
-            let go = act(cells, &mut log, &mut order, &mut marks, what, top);
-            settle(cells, &log, go)
+            let outcome = act(cells, &mut log, &mut scratch, top);
+            settle(cells, &log, outcome)
         }
     }
 }
@@ -83,21 +66,25 @@ fn plainly(cells: &mut [u64], regions: Regions, what: Action) -> RunAnswer
 pub fn preserve(cells: &mut [u64], regions: Regions) -> RunAnswer
     ensures { numbers result cells.new ≡ plain_on preserve_h0 regions cells.old }
 {
-    plainly(cells, regions, Action::Preserve)
+    plainly(
+        cells,
+        regions,
+        |cells, log, _, _| acts::preserve(cells, log, limits::H0),
+    )
 }
 
 // The structure that H0 names is copied, and H0 names the copy.
 pub fn copy(cells: &mut [u64], regions: Regions) -> RunAnswer
     ensures { numbers result cells.new ≡ plain_on J74 regions cells.old }
 {
-    plainly(cells, regions, Action::Copy)
+    plainly(cells, regions, structures::j74)
 }
 
 // The structure that H0 names is erased, and H0 is popped.
 pub fn erase(cells: &mut [u64], regions: Regions) -> RunAnswer
     ensures { numbers result cells.new ≡ plain_on J72 regions cells.old }
 {
-    plainly(cells, regions, Action::Erase)
+    plainly(cells, regions, structures::j72)
 }
 
 // The cells of a walk: the first n, in walk order, and zeros.
@@ -118,17 +105,13 @@ fn none_met(a: RunAnswer) -> Met
     }
 }
 
-// The first n cells of the order, and zeros.
-fn in_order(order: &Order, n: usize) -> Order
-    requires { (n ≤ largest_n) × (length order.now ≡ largest_n) }
-    ensures { result ≡ padded (take n order.now) }
+// The cells met, and zeros.
+fn in_order(met: &[u16]) -> Order
+    requires { length met.now ≤ largest_n }
+    ensures { result ≡ padded met.now }
 {
-    let mut cells = [0u16; limits::LARGEST_N];
-    let mut i = 0;
-    while i < n {
-        cells[i] = order[i];
-        i += 1;
-    }
+    let mut cells = [0; limits::LARGEST_N];
+    cells[..met.len()].copy_from_slice(met);
     cells
 }
 
@@ -136,20 +119,17 @@ fn in_order(order: &Order, n: usize) -> Order
 pub fn walk(cells: &[u64], regions: Regions, x: Symbol) -> Met
     ensures { result ≡ walk_on x.num regions cells.now }
 {
-    let q = sound::asks(cells, regions);
-    match q {
-        Asked::Not(a) => none_met(a),
-        Asked::Top(_) => {
-            let mut order = [0u16; limits::LARGEST_N];
-            let mut marks = [0u16; structures::MANY_NUMBERS];
-            let w = structures::walk(cells, &mut order, &mut marks, 0, x.num);
-            if w.go != 0 {
-                return none_met(RunAnswer::Refused(undo::refusal(w.go)));
-            }
-            Met {
-                answer: RunAnswer::Finished,
-                n: w.n,
-                cells: in_order(&order, w.n),
+    match sound::asks(cells, regions) {
+        Err(answer) => none_met(answer),
+        Ok(_) => {
+            let mut scratch = Scratch::new();
+            match structures::walk(cells, &mut scratch, x.num) {
+                Err(e) => none_met(RunAnswer::Refused(e)),
+                Ok(n) => Met {
+                    answer: RunAnswer::Finished,
+                    n: n,
+                    cells: in_order(scratch.met(n)),
+                },
             }
         }
     }
