@@ -118,7 +118,8 @@ module _ (cs : List Cell) (z : first cs ≢ 0) (y : first (after cs) ≢ 0) wher
 
   x≢3 : x ≢ 3
   x≢3 e =
-      y (ap (λ c. (word_in c).link) (ap (cell_at (after cs)) (sym e) ∙ get_or-set_same (set cs 3 h2) x empty (free 0) (omega (arith, in-3, length-set cs 3 h2, e))))
+      let h : x < length (set cs 3 h2) = omega (arith, in-3, length-set cs 3 h2, e) in
+      y (ap (λ c. (word_in c).link) (ap (cell_at (after cs)) (sym e) ∙ get_or-set_same (set cs 3 h2) x empty (free 0) h))
 
   on-3 : first (after cs) ≡ free_link (cell_at cs x)
   on-3 =

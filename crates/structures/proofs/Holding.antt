@@ -1,6 +1,6 @@
 -- What the order and the marks hold: with no cell met, with one more, and where a part of a walk has ended.
 use Rattle.paper.proofs.Kit.{ℕ, suc, ◌+◌, ◌<◌, ◌≡◌, sym, ap, ◌∙◌, subst, false, List, [], ◌∷◌, ⊎_elim, arith, add-one, le_of_suc-le-suc}
-use Rattle.paper.proofs.Kit.{eq-or-lt_of_le, length, set, get_or, length-set, length-replicate, get_or-set_same, get_or-set_other}
+use Rattle.paper.proofs.Kit.{eq-or-lt_of_le, length, take, set, get_or, length-set, length-replicate, get_or-set_same, get_or-set_other}
 use Rattle.std.specs.Prelude.{Result, Ok}
 use Rattle.paper.specs.declared.Refusal.{Refusal}
 use Rattle.paper.specs.Limits.{largest_n}
@@ -12,8 +12,12 @@ use Rattle.structures.specs.Marks.{back, many_numbers, blank, Marked, Only, unme
 use Rattle.structures.specs.Walks.{Gets, InRange, Holds, Ends, Lists}
 use Rattle.structures.proofs.Marks.{back-set, marked-none, marked_more, not-met, marked-only, unmet-mark, unmet-blank}
 use Rattle.structures.proofs.Meeting.{New}
+use Rattle.structures.proofs.Lists.{only_back}
 
 module _ {s order marks : List ℕ} {n : ℕ} (h : Holds s order marks n) where
+  pub holds-only : Only marks (take n order)
+  holds-only = only_back (take n order) (marked-only h.marked)
+
   -- a new cell is marked and put in the order
   module _ (c : ℕ) (new : New s c (back n order)) where
     pub fewer : unmet (length s) (set marks c 1) + 1 ≡ unmet (length s) marks

@@ -1,6 +1,6 @@
 -- A loop against a block that recurses over a list: whatever the rest of the block comes to, the whole comes to.
 use Rattle.paper.proofs.Kit.{ℕ, ◌+◌, ◌-◌, ◌<◌, ◌≤◌, ◌≡◌, refl, sym, ap, ◌∙◌, Bool, List, [], ◌∷◌, ◌++◌, append_assoc, append-nil, map, arith}
-use Rattle.paper.proofs.Kit.{length, get_or, take, drop, drop_of_length-le}
+use Rattle.paper.proofs.Kit.{length, get_or, drop, drop_of_length-le, reverse}
 use Rattle.std.specs.Prelude.{Result, Ok, Err}
 use Rattle.paper.specs.declared.Refusal.{Refusal}
 use Rattle.paper.specs.declared.Refusal.TheVariants.{NotToBeFreed}
@@ -18,7 +18,7 @@ use Rattle.structures.specs.Marks.{back}
 use Rattle.structures.specs.Net.{free_from}
 use Rattle.structures.specs.Walks.{Gets}
 use Rattle.structures.proofs.Marks.{back-less}
-use Rattle.structures.proofs.Lists.{drop-at, rest_more, rest-none}
+use Rattle.structures.proofs.Lists.{drop-at}
 
 abbrev Held : Type 0
 Held = List ℕ × List ℕ
@@ -62,62 +62,60 @@ module _ {A B : Type 0} {K : Rest → Type 0} {k : ℕ} {M : Act A} {x y : Held}
 pub no_writes : {A : Type 0} {K : Rest → Type 0} {M : Act A} {s l : List ℕ} {r : Result A Refusal} → Gets K M s r → Follows lent K 0 M (s, l) (s, l) r
 no_writes {s = s} {l = l} d = record { is = d.is; kept = lent.same (s, l) }
 
--- free_from, from the last of the order down; l is the link to the one freed last
-abbrev pub Releases : List ℕ → ℕ → ℕ → ℕ → Held → ℕ → Held → Type 0
-Releases order n k l₀ x l y = Onto Always (n - k) (free_from l₀ (back n order)) x (free_from l (back k order)) (λ v. v) y
+-- free_from, from the last cell met down; k are left, and l is the link to the one freed last
+abbrev pub Releases : List ℕ → ℕ → ℕ → Held → ℕ → Held → Type 0
+Releases met k l₀ x l y = Onto Always (length met - k) (free_from l₀ (reverse met)) x (free_from l (back k met)) (λ v. v) y
 
-module _ (order : List ℕ) (n l₀ : ℕ) {x : Held} where
-  module _ (k l : ℕ) {y : Held} (g : Releases order n k l₀ x l y) where
-    release-cons : 0 < k → k ≤ length order
-        → (put (get_or order (k - 1) 0) (free l) >> free_from (get_or order (k - 1) 0) (back (k - 1) order)) ≡ free_from l (back k order)
+module _ (met : List ℕ) (l₀ : ℕ) {x : Held} where
+  module _ (k l : ℕ) {y : Held} (g : Releases met k l₀ x l y) where
+    release-cons : 0 < k → k ≤ length met
+        → (put (get_or met (k - 1) 0) (free l) >> free_from (get_or met (k - 1) 0) (back (k - 1) met)) ≡ free_from l (back k met)
     unfolding free_from
-    release-cons z h = ap (free_from l) (sym (back-less order k z h))
+    release-cons z h = ap (free_from l) (sym (back-less met k z h))
 
-    pub release-more : {y' : Held} → 0 < k → k ≤ n → n ≤ length order → Follows lent Always 1 (put (get_or order (k - 1) 0) (free l)) y y' (Ok tt)
-        → Releases order n (k - 1) l₀ x (get_or order (k - 1) 0) y'
-    release-more z h w d =
-        let u : k ≤ length order = omega arith in
-        onto-more g 1 (n - (k - 1)) (λ v. v) (λ v. v) (omega arith) d.kept.count (λ v. refl)
-        (λ j z' r e. to_is (seen-one r) (alike (release-cons z u) (then d e)))
+    pub release-more : {y' : Held} → 0 < k → k ≤ length met → Follows lent Always 1 (put (get_or met (k - 1) 0) (free l)) y y' (Ok tt)
+        → Releases met (k - 1) l₀ x (get_or met (k - 1) 0) y'
+    release-more z h d =
+        onto-more g 1 (length met - (k - 1)) (λ v. v) (λ v. v) (omega arith) d.kept.count (λ v. refl)
+        (λ j z' r e. to_is (seen-one r) (alike (release-cons z h) (then d e)))
 
-    release-nil : k ≡ 0 → Follows lent Always 0 (free_from l (back k order)) y y (Ok l)
+    release-nil : k ≡ 0 → Follows lent Always 0 (free_from l (back k met)) y y (Ok l)
     unfolding free_from
     release-nil e = rw e give
 
-    pub release-end : k ≡ 0 → Follows lent Always n (free_from l₀ (back n order)) x y (Ok l)
-    release-end e = onto-end g n (omega arith) refl (release-nil e)
+    pub release-end : k ≡ 0 → Follows lent Always (length met) (free_from l₀ (reverse met)) x y (Ok l)
+    release-end e = onto-end g (length met) (omega arith) refl (release-nil e)
 
 -- take_all; `news` are the cells taken
-abbrev pub Takes : List ℕ → ℕ → ℕ → Held → List ℕ → Held → Type 0
-Takes order n i x news y = Onto Always i (take_all (take n order)) x (take_all (drop i (take n order))) (λ ns. news ++ ns) y
+abbrev pub Takes : List ℕ → ℕ → Held → List ℕ → Held → Type 0
+Takes met i x news y = Onto Always i (take_all met) x (take_all (drop i met)) (λ ns. news ++ ns) y
 
-module _ (order : List ℕ) (n : ℕ) {x : Held} where
-  pub take-first : Takes order n 0 x [] x
+module _ (met : List ℕ) {x : Held} where
+  pub take-first : Takes met 0 x [] x
   take-first = onto-none
 
-  module _ (i : ℕ) (news : List ℕ) {y : Held} (g : Takes order n i x news y) (w : n ≤ length order) where
-    pub take_more : {y' : Held} {t : ℕ} {news' : List ℕ} → i < n → Follows lent Always 1 (take_as (word (empty_word 0))) y y' (Ok t)
-        → news' ≡ news ++ (t ∷ [])
-        → Takes order n (i + 1) x news' y'
+  module _ (i : ℕ) (news : List ℕ) {y : Held} (g : Takes met i x news y) where
+    pub take_more : {y' : Held} {t : ℕ} {news' : List ℕ} → i < length met → Follows lent Always 1 (take_as (word (empty_word 0))) y y' (Ok t)
+        → news' ≡ news ++ (t ∷ []) → Takes met (i + 1) x news' y'
     unfolding take_all
     take_more {t = t} {news' = news'} h d p =
         onto-more g 1 (i + 1) (λ ns. t ∷ ns) (λ ns. news' ++ ns) (omega arith) d.kept.count
         (λ ns. sym (append_assoc news (t ∷ []) ns) ∙ ap (λ (u : List ℕ). u ++ ns) (sym p))
-        (λ j z r e. most (1 + j) (omega arith) (alike (ap take_all (sym (rest_more order n i h w))) (bind _ d (rest t _ r e))))
+        (λ j z r e. most (1 + j) (omega arith) (alike (ap take_all (sym (drop-at met i h))) (bind _ d (rest t _ r e))))
       where
         rest : (t : ℕ) (os : List ℕ) {j : ℕ} {y z : Held} (r : Result (List ℕ) Refusal) → Follows lent Always j (take_all os) y z r
             → Follows lent Always j (take_all os >>= (λ ns. ret (t ∷ ns))) y z (seen_as (λ ns. t ∷ ns) r)
         rest t os {j} (Ok ns) e = most j (omega arith) (bind _ e give)
         rest t os (Err c) e = bind_err _ e
 
-    pub take-err : {y' : Held} {c : Refusal} → i < n → Follows lent Always 1 (take_as (word (empty_word 0))) y y' (Err c)
-        → Follows lent Always n (take_all (take n order)) x y' (Err c)
+    pub take-err : {y' : Held} {c : Refusal} → i < length met → Follows lent Always 1 (take_as (word (empty_word 0))) y y' (Err c)
+        → Follows lent Always (length met) (take_all met) x y' (Err c)
     unfolding take_all
-    take-err h d = onto-err g 1 n (omega arith) (alike (ap take_all (sym (rest_more order n i h w))) (bind_err _ d))
+    take-err h d = onto-err g 1 (length met) (omega arith) (alike (ap take_all (sym (drop-at met i h))) (bind_err _ d))
 
-    pub take-end : {news' : List ℕ} → n ≤ i → i ≤ n → news ≡ news' → Follows lent Always n (take_all (take n order)) x y (Ok news')
+    pub take-end : {news' : List ℕ} → length met ≤ i → i ≤ length met → news ≡ news' → Follows lent Always (length met) (take_all met) x y (Ok news')
     unfolding take_all
-    take-end h h' p = onto-end g n h' (append-nil news ∙ p) (alike (ap take_all (sym (rest-none order n i h w))) give)
+    take-end h h' p = onto-end g (length met) h' (append-nil news ∙ p) (alike (ap take_all (sym (drop_of_length-le met {i = i} h))) give)
 
 -- copy_all, where `new` tells the new cells
 abbrev pub Copies : (ℕ → ℕ) → List ℕ → ℕ → Held → Held → Type 0

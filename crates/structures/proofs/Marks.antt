@@ -1,7 +1,8 @@
 -- Laws of the order and the marks.
 use Rattle.paper.proofs.Kit.{◌||◌, ℕ, zero, suc, ◌+◌, ◌-◌, ◌<◌, ◌≤◌, ◌≡◌, refl, sym, ap, ◌∙◌, subst, Bool, true, false, not, List, [], ◌∷◌, reverse}
 use Rattle.paper.proofs.Kit.{reverse-append, arith, add-one, length, get_or, take, set, replicate, length-replicate, get_or-replicate, List·getD-eq-default}
-use Rattle.paper.proofs.Kit.{take-suc, take-suc-set, get_or-set_same, get_or-set_other, ext_get_or, eqb, ltb, eqb-true, eqb-false, ltb-true, ltb-false, not-false}
+use Rattle.paper.proofs.Kit.{take-suc, take-suc-set, get_or-set_same, get_or-set_other, ext_get_or, eqb, ltb, eqb-true, eqb-false, ltb-true, ltb-false}
+use Rattle.paper.proofs.Kit.{not-false}
 use Rattle.paper.specs.Limits.{largest_n}
 use Rattle.paper.specs.Walk.{member}
 use Rattle.structures.specs.Marks.{back, many_numbers, blank, Marked, Only, unmet}

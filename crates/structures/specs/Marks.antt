@@ -42,10 +42,8 @@ pub record Ordered (s order : List ℕ) (n : ℕ) : Type 0 where
   pub in_use : (k : ℕ) → k < n → is_free (cell_in s (get_or order k 0)) ≡ false
   pub once : Once (back n order)
 
--- the marks are at the first n of the order, and can be taken away there
-pub record Clears (order marks : List ℕ) (n : ℕ) : Type 0 where
-  pub few : n ≤ largest_n
-  pub sized : length order ≡ largest_n
-  pub wide : length marks ≡ many_numbers
-  pub inside : (k : ℕ) → k < n → get_or order k 0 < largest_n
-  pub only : Only marks (back n order)
+-- cells of the numbers s in use, each once
+pub record Met (s met : List ℕ) : Type 0 where
+  pub few : length met ≤ length s
+  pub in_use : (k : ℕ) → k < length met → is_free (cell_in s (get_or met k 0)) ≡ false
+  pub once : Once (reverse met)

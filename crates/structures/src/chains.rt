@@ -58,7 +58,7 @@ fn chain_links(
         let w = match arrive(cells, marks, c) {
             Ok(w) => w,
             Err(e) => {
-                clear(order, marks, n);
+                clear(&order[..n], marks);
                 return Err(e);
             }
         };
@@ -81,6 +81,6 @@ pub(crate) fn chain(cells: &[u64], scratch: &mut Scratch, c: u16) -> Result<usiz
         return Ok(1);
     }
     let met = chain_links(cells, &mut scratch.order, &mut scratch.marks, c)?;
-    clear(&scratch.order, &mut scratch.marks, met);
+    clear(&scratch.order[..met], &mut scratch.marks);
     Ok(met)
 }

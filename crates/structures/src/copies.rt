@@ -1,19 +1,18 @@
 // Copying the cells of a walk: a new cell for each, kept in the marks as the table old to new.
-ghost use Rattle.std.specs.Prelude.{◌≡◌, true, false, cond, ◌+◌, ◌≤◌, length, take, eqb, Ok};
-ghost use Rattle.paper.specs.Limits.{largest_n};
+ghost use Rattle.std.specs.Prelude.{◌≡◌, true, false, cond, ◌+◌, length, reverse, eqb, Ok};
 ghost use Rattle.paper.specs.Walk.{member, take_all, copied, copy_all, copy};
 ghost use Rattle.cells.specs.Layout.{unpack_of};
 ghost use Rattle.cells.specs.Pack.{Packs};
 ghost use Rattle.steps.specs.Follows.{seen_as};
 ghost use Rattle.undo.specs.Log.{Room};
 ghost use Rattle.undo.specs.Did.{Always, Did};
-ghost use Rattle.structures.specs.Marks.{blank, Ordered, Clears};
+ghost use Rattle.structures.specs.Marks.{blank, Once, Met};
 ghost use Rattle.structures.specs.Net.{copy_of};
 ghost use Rattle.structures.specs.Walks.{InRange};
-ghost use Rattle.structures.specs.Copies.{new_of, news_of, Begins, Finds, AllNew, Leaves, Prepares};
+ghost use Rattle.structures.specs.Copies.{new_of, news_of, Finds, AllNew, Leaves, Prepares};
 
 use crate::scratch::{Scratch, clear, mark_at};
-use crate::{Marks, Order, walks};
+use crate::{Marks, walks};
 use cells::Cell;
 use paper::{Refusal, limits};
 
@@ -24,14 +23,14 @@ struct Found {
     next: u16,
 }
 
-// The next cells of the free list are noted in the marks, one for each of the first n of the order; nothing is written yet.
-fn find(cells: &[u64], order: &Order, marks: &mut Marks, n: usize) -> Found
-    requires { Begins order.now marks.old n }
-    ensures { Finds cells.now order.now marks.new n result }
+// The next cells of the free list are noted in the marks, one for each cell met; nothing is written yet.
+fn find(cells: &[u64], met: &[u16], marks: &mut Marks) -> Found
+    requires { Once (reverse met.now) × (marks.old ≡ blank) }
+    ensures { Finds cells.now met.now marks.new result }
 {
     let h = acts::own(cells, limits::H2);
     let mut next = (h % 65536) as u16;
-    for (i, o) in order[..n].iter().enumerate() {
+    for (i, o) in met.iter().enumerate() {
         let x = cells::peek(cells, next);
         if next == 0 || !cells::is_free(x) {
             return Found { n: i, next };
@@ -39,47 +38,43 @@ fn find(cells: &[u64], order: &Order, marks: &mut Marks, n: usize) -> Found
         marks[*o as usize] = next;
         next = cells::free_link(x);
     }
-    Found { n, next }
+    Found { n: met.len(), next }
 }
 
-// Whether c is one of the new cells of the first n of the order.
-fn among(order: &Order, marks: &Marks, n: usize, c: u16) -> bool
-    requires { n ≤ largest_n }
-    ensures { result ≡ false → member c (news_of marks.now order.now n) ≡ false }
+// Whether c is one of the new cells of those met.
+fn among(met: &[u16], marks: &Marks, c: u16) -> bool
+    ensures { result ≡ false → member c (news_of marks.now met.now) ≡ false }
 {
-    order[..n].iter().any(|o| mark_at(marks, *o) == c)
+    met.iter().any(|o| mark_at(marks, *o) == c)
 }
 
-// Whether n cells were found, none of them twice: as each leads to one other, the last would be one of them again.
-fn all_new(order: &Order, marks: &Marks, found: usize, n: usize) -> bool
-    requires { Clears order.now marks.now found }
-    ensures { result ≡ true → AllNew order.now marks.now found n }
+// Whether as many were found as were met, none of them twice: as each leads to one other, the last would be one of them again.
+fn all_new(met: &[u16], marks: &Marks, found: usize) -> bool
+    ensures { result ≡ true → AllNew met.now marks.now found }
 {
-    if found != n || n == 0 {
-        return false;
+    match met.split_last() {
+        Some((last, before)) => found == met.len() && !among(before, marks, mark_at(marks, *last)),
+        None => false,
     }
-    let last = mark_at(marks, order[n - 1]);
-    !among(order, marks, n - 1, last)
 }
 
-// A new cell for each of the first n of the order; the marks tell which. After a refusal there is none.
+// A new cell for each cell met; the marks tell which. After a refusal there is none.
 fn take_all(
     cells: &mut [u64],
     log: &mut [u64],
-    order: &Order,
+    met: &[u16],
     marks: &mut Marks,
-    n: usize,
 ) -> Result<(), Refusal>
-    requires { Begins order.now marks.old n × Room log.old n }
-    ensures did { Did Always n (take_all (take n order.now)) cells log
-        (seen_as (λ _. news_of marks.new order.now n) result) }
-    ensures leaves { Leaves order.now marks.new n result }
+    requires { Once (reverse met.now) × (marks.old ≡ blank) × Room log.old (length met.now) }
+    ensures did { Did Always (length met.now) (take_all met.now) cells log
+        (seen_as (λ _. news_of marks.new met.now) result) }
+    ensures leaves { Leaves met.now marks.new result }
 {
-    for (i, o) in order[..n].iter().enumerate() {
+    for (i, o) in met.iter().enumerate() {
         match acts::take_as(cells, log, cells::EMPTY) {
             Ok(c) => marks[*o as usize] = c,
             Err(e) => {
-                clear(order, marks, i);
+                clear(&met[..i], marks);
                 return Err(e);
             }
         }
@@ -87,28 +82,26 @@ fn take_all(
     Ok(())
 }
 
-// New cells for the first n of the order, noted in the marks. H2 passes over those that were found, which need no word until they get the
-// copy; where the free list does not have so many they are taken one by one, or refused.
+// New cells for those met, noted in the marks. H2 passes over those that were found, which need no word until they get the copy; where
+// the free list does not have so many they are taken one by one, or refused.
 fn prepare(
     cells: &mut [u64],
     log: &mut [u64],
-    order: &Order,
+    met: &[u16],
     marks: &mut Marks,
-    n: usize,
 ) -> Result<(), Refusal>
-    requires { Ordered cells.old order.now n × Begins order.now marks.old n × Room log.old n × (n ≤ length cells.old) }
-    ensures prepares { Prepares order.now marks.new n
-        (cells.old, log.old) (cells.new, log.new) result }
-    ensures leaves { Leaves order.now marks.new n result }
+    requires { Met cells.old met.now × (marks.old ≡ blank) × Room log.old (length met.now) }
+    ensures prepares { Prepares met.now marks.new (cells.old, log.old) (cells.new, log.new) result }
+    ensures leaves { Leaves met.now marks.new result }
 {
-    let f = find(cells, order, marks, n);
-    if all_new(order, marks, f.n, n) {
+    let f = find(cells, met, marks);
+    if all_new(met, marks, f.n) {
         let h = acts::own(cells, limits::H2);
         undo::put(cells, log, limits::H2, cells::with_link(h, f.next));
         return Ok(());
     }
-    clear(order, marks, f.n);
-    take_all(cells, log, order, marks, n)
+    clear(&met[..f.n], marks);
+    take_all(cells, log, met, marks)
 }
 
 // A local name is given anew.
@@ -139,36 +132,34 @@ fn copied(marks: &Marks, x: u64) -> u64
     }
 }
 
-// The first n cells of the order are copied into their new cells.
-fn copy_all(cells: &mut [u64], log: &mut [u64], order: &Order, marks: &Marks, n: usize)
-    requires { Clears order.now marks.now n × Room log.old n }
-    ensures { Did Always n (copy_all (new_of marks.now) (take n order.now) (news_of marks.now order.now n))
+// The cells met are copied into their new cells.
+fn copy_all(cells: &mut [u64], log: &mut [u64], met: &[u16], marks: &Marks)
+    requires { Room log.old (length met.now) }
+    ensures { Did Always (length met.now) (copy_all (new_of marks.now) met.now (news_of marks.now met.now))
         cells log (Ok tt) }
 {
-    for o in &order[..n] {
+    for o in met {
         let y = copied(marks, cells::peek(cells, *o));
         undo::put(cells, log, mark_at(marks, *o), y);
     }
 }
 
-// A copy of the first n cells of the order: the new cell of c.
+// A copy of the cells met: the new cell of c.
 fn copy_met(
     cells: &mut [u64],
     log: &mut [u64],
-    order: &Order,
+    met: &[u16],
     marks: &mut Marks,
-    n: usize,
     c: u16,
 ) -> Result<u16, Refusal>
-    requires { Ordered cells.old order.now n × Begins order.now marks.old n
-        × Room log.old (length cells.old + 1) × (n ≤ length cells.old) }
-    ensures did { Did Always (length cells.old + 1) (copy_of c (take n order.now)) cells log result }
+    requires { Met cells.old met.now × (marks.old ≡ blank) × Room log.old (length cells.old + 1) }
+    ensures did { Did Always (length cells.old + 1) (copy_of c met.now) cells log result }
     ensures unmarked { marks.new ≡ blank }
 {
-    prepare(cells, log, order, marks, n)?;
-    copy_all(cells, log, order, marks, n);
+    prepare(cells, log, met, marks)?;
+    copy_all(cells, log, met, marks);
     let name = mark_at(marks, c);
-    clear(order, marks, n);
+    clear(met, marks);
     Ok(name)
 }
 
@@ -183,5 +174,5 @@ pub(crate) fn copy(
     ensures { Did Always (length cells.old + 1) (copy c) cells log result }
 {
     let n = walks::walk(cells, scratch, c)?;
-    copy_met(cells, log, &scratch.order, &mut scratch.marks, n, c)
+    copy_met(cells, log, &scratch.order[..n], &mut scratch.marks, c)
 }

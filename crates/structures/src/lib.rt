@@ -52,7 +52,7 @@ fn j71(cells: &mut [u64], log: &mut [u64], scratch: &mut Scratch, top: u16) -> R
 {
     let w0 = acts::own(cells, limits::H0);
     let n = chains::chain(cells, scratch, (w0 / cells::SYMB % 65536) as u16)?;
-    frees::erase_back(cells, log, &scratch.order, n, top)?;
+    frees::erase_back(cells, log, scratch.met(n), top)?;
     acts::pop(cells, log, top)
 }
 

@@ -1,7 +1,7 @@
 // Marks show a repeat at once. They are taken away by going over the cells met, so that the next walk finds none.
 ghost use Rattle.std.specs.Prelude.{◌≡◌, ◌<◌, ◌≤◌, get_or, set, take};
 ghost use Rattle.paper.specs.Limits.{largest_n};
-ghost use Rattle.structures.specs.Marks.{blank, Clears};
+ghost use Rattle.structures.specs.Marks.{blank, Only};
 
 use crate::{MANY_NUMBERS, Marks, Order};
 use paper::limits;
@@ -47,12 +47,12 @@ pub(crate) fn enlist(order: &mut Order, marks: &mut Marks, n: usize, c: u16)
     marks[c as usize] = 1;
 }
 
-// The marks of the first n cells of the order are taken away.
-pub(crate) fn clear(order: &Order, marks: &mut Marks, n: usize)
-    requires { Clears order.now marks.old n }
+// The marks of the cells met are taken away.
+pub(crate) fn clear(met: &[u16], marks: &mut Marks)
+    requires { Only marks.old met.now }
     ensures { marks.new ≡ blank }
 {
-    for c in &order[..n] {
+    for c in met {
         marks[*c as usize] = 0;
     }
 }

@@ -88,7 +88,7 @@ fn walk_links(
         let x = match arrive(cells, marks, linked, depth, c) {
             Ok(x) => x,
             Err(e) => {
-                clear(order, marks, n);
+                clear(&order[..n], marks);
                 return Err(e);
             }
         };
@@ -133,6 +133,6 @@ pub fn walk(cells: &[u64], scratch: &mut Scratch, c: u16) -> Result<usize, Refus
     ensures { Lists (walk_back c) cells.now scratch.new.order result }
 {
     let met = walk_links(cells, &mut scratch.order, &mut scratch.marks, c, 1, 0)?;
-    clear(&scratch.order, &mut scratch.marks, met);
+    clear(&scratch.order[..met], &mut scratch.marks);
     Ok(met)
 }

@@ -1,6 +1,6 @@
 use Rattle.paper.proofs.Kit.{sym, ◌∙◌, arith}
 use Rattle.steps.proofs.Sequence.{same_err}
-use Rattle.structures.proofs.Holding.{holds-none, more-turns, holds_more, seen_more, ends-lists}
+use Rattle.structures.proofs.Holding.{holds-only, holds-none, more-turns, holds_more, seen_more, ends-lists}
 use Rattle.structures.proofs.Turn.{chain-not, chain-new, chain-one, chain-long}
 use Rattle.structures.proofs.chains.chain.Goals as goal
 
@@ -34,3 +34,6 @@ returns c =
     let e = c.in_ok-met.ensures in
     ends-lists e
     (chain-long _ c.in_ok-x.ensures (sym c.is_term.ensures ∙ c.if-is_term.false) (e.says _ (more-turns c.requires c.args.scratch.now.unmarked)))
+
+pub clear-requires : goal.clear-requires
+clear-requires c = let e = c.in_ok-met.ensures in holds-only e.left.0

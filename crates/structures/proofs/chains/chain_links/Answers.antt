@@ -7,7 +7,7 @@ use Rattle.structures.specs.Marks.{back}
 use Rattle.structures.specs.Walks.{Gets, Holds, Chains, chains}
 use Rattle.structures.proofs.Leads.{leads-end, leads-more, known}
 use Rattle.structures.proofs.Meeting.{New, s-chains}
-use Rattle.structures.proofs.Holding.{fits, listed-held, listed-less, listed-more}
+use Rattle.structures.proofs.Holding.{holds-only, fits, listed-held, listed-less, listed-more}
 use Rattle.structures.proofs.Turn.{chain-refused, chain-end, chain-on}
 use Rattle.structures.proofs.chains.chain_links.Goals as goal
 
@@ -63,3 +63,6 @@ loop-w-preserved c =
           (λ k h r d. chain-on _ _ k (met _ _ i c.in-Ok.ensures) c.if-c-eq0.false
           (subst (λ t. Gets Always (chain k (c.in-Ok.w % 65536) t) c.args.cells.now r) (listed-more i w c.enlist.ensures) d)),
     )
+
+pub clear-requires : goal.clear-requires
+clear-requires c = holds-only c.loop-w.invariant.0

@@ -1,4 +1,4 @@
-use Rattle.paper.proofs.Kit.{ap, arith, length-take-le}
+use Rattle.paper.proofs.Kit.{ap, arith}
 use Rattle.paper.specs.Act.{put}
 use Rattle.paper.specs.Walk.{copied}
 use Rattle.cells.specs.Layout.{unpack_of}
@@ -11,16 +11,9 @@ use Rattle.structures.proofs.copies.copy_all.Goals as goal
 
 pub loop-o-preserved : goal.loop-o-preserved
 loop-o-preserved c =
-    let l = c.loop-o in
-    let q = c.requires.0 in
-    let e = length-take-le c.args.n c.args.order.now (omega (arith, q.few, q.sized)) in
     let x = copied (new_of c.args.marks.now) (unpack_of c.peek.result) in
-    copy_more _ _ _ l.invariant (omega arith) (peeked _ _ c.peek.ensures)
+    copy_more _ _ _ c.loop-o.invariant (omega arith) (peeked _ _ c.peek.ensures)
     (alike (ap (λ n. put n x) c.mark_at.ensures) (once _ _ (puts _ c.copied-y.ensures c.put.ensures)))
 
 pub returns : goal.returns
-returns c =
-    let l = c.loop-o in
-    let q = c.requires.0 in
-    let e = length-take-le c.args.n c.args.order.now (omega (arith, q.few, q.sized)) in
-    copy-end _ _ _ l.invariant _ (omega arith) (omega arith)
+returns c = copy-end _ _ _ c.loop-o.invariant _ (omega arith) (omega arith)

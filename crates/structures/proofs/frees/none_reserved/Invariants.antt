@@ -1,6 +1,5 @@
-use Rattle.paper.proofs.Kit.{take}
 use Rattle.structures.proofs.Loops.{Frees}
 use Rattle.structures.proofs.frees.none_reserved.Given as goal
 
 abbrev pub invariant-loop-c : goal.invariant-loop-c
-invariant-loop-c l = Frees l.top (take l.n l.order) l.c-index
+invariant-loop-c l = Frees l.top l.met l.c-index

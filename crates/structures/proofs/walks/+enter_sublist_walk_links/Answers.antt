@@ -12,7 +12,7 @@ use Rattle.structures.specs.Marks.{back, unmet}
 use Rattle.structures.specs.Walks.{Gets, Holds, Visits, Ends, met_in, Arrives, arrives, list_of, sublist}
 use Rattle.structures.proofs.Leads.{leads-none, leads-end, leads-more, known}
 use Rattle.structures.proofs.Meeting.{New, s-arrives}
-use Rattle.structures.proofs.Holding.{fits, listed-held, listed-less, listed-more}
+use Rattle.structures.proofs.Holding.{holds-only, fits, listed-held, listed-less, listed-more}
 use Rattle.structures.proofs.Turn.{list-in, list-none, list-is, sublist-none, sublist-in, sublist-as, meet-refused, inner-refused, walk_end, walk-on}
 use Rattle.structures.proofs.walks.+enter_sublist_walk_links.Goals as goal
 
@@ -126,3 +126,6 @@ walk_links-loop-x-preserved t c =
           (λ k h r g. walk-on _ _ _ _ k (met _ _ _ _ i.0 c.in-Ok.ensures) (link-in x _ c.word_in-w.ensures)
           (inner _ _ _ x c.word_in-w.ensures (listed-more i.0 w.0 c.enlist.ensures) e k (omega arith)) c.if-c-eq0.false g),
     )
+
+pub walk_links-clear-requires : goal.walk_links-clear-requires
+walk_links-clear-requires t c = holds-only c.loop-x.invariant.0

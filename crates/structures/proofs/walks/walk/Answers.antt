@@ -2,7 +2,7 @@ use Rattle.paper.proofs.Kit.{[], arith}
 use Rattle.paper.specs.Walk.{walk_back, walk_of}
 use Rattle.steps.proofs.Sequence.{bind, bind_err, give, same_err}
 use Rattle.structures.proofs.Leads.{sized_on}
-use Rattle.structures.proofs.Holding.{holds-none, more-turns, ends-lists}
+use Rattle.structures.proofs.Holding.{holds-only, holds-none, more-turns, ends-lists}
 use Rattle.structures.proofs.walks.walk.Goals as goal
 
 pub walk_links-requires : goal.walk_links-requires
@@ -21,3 +21,6 @@ returns c =
     let e = c.in_ok-met.ensures in
     let w = ((e.says _ (more-turns c.requires c.args.scratch.now.unmarked)).is []).1 in
     ends-lists e (bind _ (sized_on _ w) give)
+
+pub clear-requires : goal.clear-requires
+clear-requires c = let e = c.in_ok-met.ensures in holds-only e.left.0
