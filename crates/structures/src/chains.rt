@@ -13,13 +13,7 @@ use paper::{Refusal, limits};
 fn fine(marks: &Marks, c: u16, x: u64) -> bool
     ensures { result ≡ true → FineLink marks.now c (unpack_of x) }
 {
-    if c <= limits::H2 {
-        return false;
-    }
-    if mark_at(marks, c) != 0 {
-        return false;
-    }
-    cells::is_word(x)
+    limits::H2 < c && mark_at(marks, c) == 0 && cells::is_word(x)
 }
 
 // Why a cell may not come next: its checks in order.

@@ -15,19 +15,13 @@ use paper::{Refusal, Symbol, limits};
 fn fine(marks: &Marks, linked: bool, depth: usize, c: u16, x: u64) -> bool
     ensures { result ≡ true → Fine marks.now linked depth c (unpack_of x) }
 {
-    if c < limits::FIRST_DECK {
-        return false;
-    }
-    if mark_at(marks, c) != 0 {
+    if c < limits::FIRST_DECK || mark_at(marks, c) != 0 {
         return false;
     }
     if linked {
         return cells::is_word(x);
     }
-    if limits::DEEPEST < depth {
-        return false;
-    }
-    !cells::is_free(x)
+    depth <= limits::DEEPEST && !cells::is_free(x)
 }
 
 // No word, where a LINK led to it.
@@ -41,7 +35,7 @@ fn not_word(linked: bool, x: u64) -> bool
 fn too_deep(linked: bool, depth: usize) -> bool
     ensures { result ≡ (not linked && ltb deepest depth) }
 {
-    !linked & (limits::DEEPEST < depth)
+    !linked && limits::DEEPEST < depth
 }
 
 // Why a cell may not come next: its checks in order.
