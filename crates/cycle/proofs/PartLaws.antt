@@ -9,7 +9,6 @@ use Rattle.steps.specs.Follows.{Follows}
 use Rattle.steps.proofs.Sequence.{most}
 use Rattle.regions.specs.Lent.{Tells}
 use Rattle.undo.specs.Did.{Top, lent}
-use Rattle.structures.specs.Walks.{InRange}
 use Rattle.printing.specs.Telling.{Heard, after, Hears, telling, line_in, end_of, Printing}
 use Rattle.printing.proofs.TellingLaws.{quietly, ending}
 use Rattle.printing.proofs.PrintingLaws.{stands-none}
@@ -18,10 +17,6 @@ use Rattle.cycle.specs.Reaches.{Reaches}
 -- where the regions end, as the table tells
 pub told-top : {t : List ℕ} {rs : List Region} {n top : ℕ} (u : List ℕ) → Tells t rs → top ≡ get_or t 0 0 → (e : Heard) → Hears rs n e → Top top (after e u)
 told-top u k p e h = ending u (sym k.top ∙ sym p) e h
-
--- N is in range whatever was written
-pub in_range-as : {s s' : List ℕ} → length s' ≡ length s → InRange s → InRange s'
-in_range-as e r = record { large = omega (arith, r.large, e); small = omega (arith, r.small, e) }
 
 no_bytes : (d : List ℕ) (at n : ℕ) → n ≡ at → [] ≡ line_in d at n
 no_bytes d at n p = let z : n - at ≡ 0 = omega arith in rw z

@@ -1,6 +1,6 @@
 use Rattle.cycle.proofs.CycleLaws.{ascends, goes}
 use Rattle.cycle.proofs.TurnLaws.{came, stays-formed}
-use Rattle.cycle.proofs.PartLaws.{in_range-as}
+use Rattle.structures.proofs.Whole.{range-as}
 use Rattle.paper.proofs.Kit.{◌∙◌, arith}
 use Rattle.cycle.proofs.cycle.Goals as goal
 
@@ -19,7 +19,7 @@ returns-then-c-eq0 c =
           c.ascend.auto.log,
           c.settle.auto.cells,
         );
-        range = in_range-as (c.settle.auto.cells ∙ c.ascend.auto.cells) c.requires.0.range;
+        range = range-as (c.settle.auto.cells ∙ c.ascend.auto.cells) c.requires.0.range;
       };
       formed = stays-formed rs w _ _ _ c.begin.ensures _ _ p c.settle.ensures;
     }
@@ -64,7 +64,7 @@ returns c =
           c.interpret-outcome.auto.log,
           c.settle-2.auto.cells,
         );
-        range = in_range-as (c.settle-2.auto.cells ∙ c.interpret-outcome.auto.cells) c.requires.0.range;
+        range = range-as (c.settle-2.auto.cells ∙ c.interpret-outcome.auto.cells) c.requires.0.range;
       };
       formed = stays-formed rs w _ _ _ c.begin.ensures _ _ p c.settle-2.ensures;
     }

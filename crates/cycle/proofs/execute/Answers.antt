@@ -1,6 +1,7 @@
 use Rattle.cycle.specs.Reaches.{Past}
 use Rattle.cycle.proofs.ExecuteLaws.{untouched, is_own, performed, descended, not-one}
-use Rattle.cycle.proofs.PartLaws.{part-quiet, in_range-as}
+use Rattle.cycle.proofs.PartLaws.{part-quiet}
+use Rattle.structures.proofs.Whole.{range-as}
 use Rattle.steps.proofs.Sequence.{same_err, most}
 use Rattle.paper.proofs.Kit.{refl, sym, ◌∙◌, arith}
 use Rattle.std.specs.Prelude.{Ok, Err}
@@ -32,7 +33,7 @@ perform-requires c =
     let p = c.in_ok-y.ensures in
     let m = c.in_ok-t.ensures in (
       record {
-        range = in_range-as c.past_j1.auto.cells c.requires.range;
+        range = range-as c.past_j1.auto.cells c.requires.range;
         room = record { fits = omega (arith, c.past_j1.auto.cells, c.past_j1.auto.log, p.reaches.kept.count, c.requires.room.fits) };
         within = c.requires.within;
         names = c.requires.names;
