@@ -65,7 +65,8 @@ module _ {rs : List Region} {k : Notes} {l : List Local} {m : List Bool} where
       (ap (λ (cs : List Cell). with_cells (book_of (held rs k l s m)) cs) (rw (g, unpack-word x h, e, unpacked-set s w y, p.unpacks)))
       (λ f. rw e (formed-set s w y p.formed f))
 
-  pub links-not : (w c x : ℕ) {s : List ℕ} → cell_in s w ≡ unpack_of x → 2 ^ 48 ≤ x → Follows loading Always 0 (link_up w c) (held rs k l s m) (held rs k l s m) (Ok tt)
+  pub links-not : (w c x : ℕ) {s : List ℕ} → cell_in s w ≡ unpack_of x → 2 ^ 48 ≤ x
+      → Follows loading Always 0 (link_up w c) (held rs k l s m) (held rs k l s m) (Ok tt)
   unfolding link_up cell_in
   links-not w c x {s} g h =
       changes _ (held rs k l s m) (held rs k l s m)

@@ -1,5 +1,5 @@
-// What the loader keeps, and its small steps: document 01, "The deck". Each ends at its first fault; what it wrote before then does not count,
-// as a refused load zeroes every cell.
+// What the loader keeps, and its small steps: document 01, "The deck". Each ends at its first fault; what it wrote before then does not
+// count, as a refused load zeroes every cell.
 #![tactic(auto)]
 
 ghost use Rattle.std.specs.Prelude.{◌≡◌, cond, ℕ, eqb, set, List, Ok};
@@ -179,7 +179,7 @@ fn open_structure(
     let opened = Notes {
         words: true,
         opened: true,
-        waiting: notes.waiting,
+        ..notes
     };
     Ok((opened, c))
 }
@@ -256,8 +256,8 @@ pub fn fill(cells: &mut [u64], notes: Notes, c: u16, x: u64, waits: bool) -> Not
     put(cells, c, x);
     Notes {
         words: true,
-        opened: notes.opened,
         waiting: if waits { c } else { 0 },
+        ..notes
     }
 }
 

@@ -179,7 +179,8 @@ module _ {deck : List ℕ} {n : ℕ} {l : List Local} {s : List ℕ} {m : List B
           ended : (b : Bool) → length deck ≤ at + size → Begins s' m' b
               → ending n (records n (suc (length deck)) 0 deck (fresh_book n [])) ≡ ending n (cond b (complete there) (broken Hopeless at))
           ended b g f =
-              over ∙ ap (ending n) (closed n deck at (at + size) there g ∙ ap (λ (x : Bool). cond x (complete there) (broken Hopeless at)) (sym (f _ t.notes l')))
+              over
+              ∙ ap (ending n) (closed n deck at (at + size) there g ∙ ap (λ (x : Bool). cond x (complete there) (broken Hopeless at)) (sym (f _ t.notes l')))
 
           pub hopeless : length deck ≤ at + size → Begins s' m' false → Comes deck n (Err (Hopeless, at)) s'
           hopeless g f = ended false g f

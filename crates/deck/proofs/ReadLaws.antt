@@ -1,6 +1,6 @@
 -- Reading a deck record by record: what one record comes to, and where the loop stands.
-use Rattle.paper.proofs.Kit.{clash, ℕ, zero, suc, ◌+◌, ◌<◌, ◌≤◌, Bool, true, false, cond, List, [], ◌∷◌, Option, none, some, ◌≡◌, refl, ap, sym, ◌∙◌, arith, eq-eqb}
-use Rattle.paper.proofs.Kit.{ne_eqb, lt-ltb, le-ltb, ltb-true, ltb-false, ltb, length, drop, length-drop, drop_of_length-le, drop-drop}
+use Rattle.paper.proofs.Kit.{clash, ℕ, zero, suc, ◌+◌, ◌<◌, ◌≤◌, Bool, true, false, cond, List, [], ◌∷◌, Option, none, some, ◌≡◌, refl, ap, sym, ◌∙◌, arith}
+use Rattle.paper.proofs.Kit.{eq-eqb, ne_eqb, lt-ltb, le-ltb, ltb-true, ltb-false, ltb, length, drop, length-drop, drop_of_length-le, drop-drop}
 use Rattle.std.specs.Prelude.{Result, Ok, Err}
 use Rattle.paper.specs.declared.Fault.{Fault}
 use Rattle.paper.specs.declared.Fault.TheVariants.{PastEnd, UnknownKind, BadField, NotEnded, Hopeless}

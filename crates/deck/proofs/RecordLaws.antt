@@ -33,7 +33,8 @@ starts c x y {rs} {k} {l} {s} {s₁} {s₂} {m} e f p q =
 pub lays : (size : ℕ) (x : Region) {rs : List Region} {k k' : Notes} {l l' : List Local} {s s' : List ℕ} {m m' : List Bool} (rs' : List Region)
     → rs' ≡ rs ++ (x ∷ []) → book_of (held rs' k' l' s' m') ≡ fresh_book size rs' → AllFormed s'
     → Follows loading Always 0 (becomes (λ b. fresh_book size (b.regions ++ (x ∷ [])))) (held rs k l s m) (held rs' k' l' s' m') (Ok tt)
-lays size x {rs} {k} {k'} {l} {l'} {s} {s'} {m} {m'} rs' e b f = changes _ (held rs k l s m) (held rs' k' l' s' m') (ap (fresh_book size) (sym e) ∙ sym b) (λ _. f)
+lays size x {rs} {k} {k'} {l} {l'} {s} {s'} {m} {m'} rs' e b f =
+    changes _ (held rs k l s m) (held rs' k' l' s' m') (ap (fresh_book size) (sym e) ∙ sym b) (λ _. f)
 
 -- none of three
 pub none-holds : (a b c : Bool) → (a || b || c) ≡ false → (a ≡ false) × (b ≡ false) × (c ≡ false)
@@ -80,7 +81,8 @@ after-it M N v b = go (M b)
     go (refused f) = refl
 
 module _ (M N : Load (Unit {0})) {t : Regions} {k : Notes} {l l' : List Local} {s s' : List ℕ} {m m' : List Bool} where
-  pub tested-too : {x : Placed} → PlacesIn (ordinary M) t k l s m l' s' m' (Ok x) → Told Always N (Ok tt) → PlacesIn (ordinary (M >> N)) t k l s m l' s' m' (Ok x)
+  pub tested-too : {x : Placed} → PlacesIn (ordinary M) t k l s m l' s' m' (Ok x) → Told Always N (Ok tt)
+      → PlacesIn (ordinary (M >> N)) t k l s m l' s' m' (Ok x)
   unfolding ordinary
   tested-too d q = record { did = alike-here (λ _ _. after-it M N false _) (bind (λ l. N >> ret l) d.did (test q give)); made = d.made }
 
@@ -97,7 +99,8 @@ module _ (M N : Load (Unit {0})) {t : Regions} {k : Notes} {l l' : List Local} {
 -- a record by the case of x, which is known to be y
 pub placed-as : {A : Type 0} (M : A → Load Bool) {x y : A} {t : Regions} {k : Notes} {l l' : List Local} {s s' : List ℕ} {m m' : List Bool}
     {r : Result Placed Fault} → x ≡ y → PlacesIn (M y) t k l s m l' s' m' r → PlacesIn (M x) t k l s m l' s' m' r
-placed-as {A} M {t = t} {k = k} {l = l} {l' = l'} {s = s} {s' = s'} {m = m} {m' = m'} {r = r} p d = subst (λ (z : A). PlacesIn (M z) t k l s m l' s' m' r) (sym p) d
+placed-as {A} M {t = t} {k = k} {l = l} {l' = l'} {s = s} {s' = s'} {m = m} {m' = m'} {r = r} p d =
+    subst (λ (z : A). PlacesIn (M z) t k l s m l' s' m' r) (sym p) d
 
 -- an answer that is known
 pub placed-to : {M : Load Bool} {t : Regions} {k : Notes} {l l' : List Local} {s s' : List ℕ} {m m' : List Bool} {x y : Result Placed Fault} → x ≡ y

@@ -221,8 +221,8 @@ fn load_one(
     load_record(cells, names, locals, regions, notes, x)
 }
 
-// One record after another, its symbols first; left at the first fault, with the offset of its record. Behind the start come 9, "no kind 5, or
-// bytes after it", with the offset where reading stopped, and 11.
+// One record after another, its symbols first; left at the first fault, with the offset of its record. Behind the start come 9, "no kind 5,
+// or bytes after it", with the offset where reading stopped, and 11.
 fn load_records(
     deck: &[u8],
     cells: &mut [u64],

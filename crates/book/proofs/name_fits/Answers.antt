@@ -38,7 +38,8 @@ returns-in-Local c =
     (any (when BadName (or_assoc w (not c.args.notes.opened) c.local_at.result.has_word) c.refuse_if-in-Local.ensures))
     (λ d. sees _ (told_part _ (λ t h. h.opened))
     (or-tells _ _ _ d
-    (λ d. sees _ (told_part _ (λ t h. ap (λ ls. local_at ls c.in-Local.n) h.locals)) (when BadName (ap (λ (x : LocalCell). x.has_word) c.local_at.ensures) d))))))
+    (λ d. sees _ (told_part _ (λ t h. ap (λ ls. local_at ls c.in-Local.n) h.locals))
+    (when BadName (ap (λ (x : LocalCell). x.has_word) c.local_at.ensures) d))))))
 
 pub returns-in-Blank : goal.returns-in-Blank
 unfolding name_fits
