@@ -23,8 +23,7 @@ use Rattle.cells.specs.Pack.{AllFormed}
 use Rattle.cells.specs.Bridge.{state_of}
 use Rattle.cells.proofs.Store.{unpacked-length}
 use Rattle.regions.specs.Lent.{Tells}
-use Rattle.cycle.specs.declared.Cycled.{Cycled}
-use Rattle.cycle.specs.declared.Cycled.TheVariants.{Progress, Refused as Stopped}
+use Rattle.std.specs.Prelude.{Result, Ok, Err}
 use Rattle.cycle.specs.Turns.{state_at, cycled, Came, Turns}
 use Rattle.machine.specs.declared.Ran.{Ran}
 use Rattle.machine.specs.Numbers.{numbers, cycles_on, run_on}
@@ -215,12 +214,12 @@ module _ (regions : Regions) (budget : ℕ) (s out : List ℕ) {r : Ran} {s' out
           rw (t, c, answer-is regions budget s out allowed w) (rw b at e.why),
         )
 
--- What a call of cycle::cycle leaves of the numbers s and the bytes out. Progress: the free cells are exactly those on the H2 list, each once,
--- the numbers pass the test again, and H3 counts one more. Refused: "leaves cells and printed lines as it found them"
-abbrev pub Leaves : Regions → (s out s' out' : List ℕ) → Cycled → Type 0
-Leaves regions s out s' out' (Progress n) =
+-- What a call of cycle::cycle leaves of the numbers s and the bytes out. Ok: the free cells are exactly those on the H2 list, each once,
+-- the numbers pass the test again, and H3 counts one more. Err: "leaves cells and printed lines as it found them"
+abbrev pub Leaves : Regions → (s out s' out' : List ℕ) → Result ℕ Refusal → Type 0
+Leaves regions s out s' out' (Ok n) =
     FreeListed (state_with regions s' [] 0) × (store_sound regions s' ≡ true) × (length s' ≡ length s) × (tally_of s' ≡ wrapped (tally_of s +ℤ pos 1))
-Leaves regions s out s' out' (Stopped e) = (s' ≡ s) × (out' ≡ out)
+Leaves regions s out s' out' (Err e) = (s' ≡ s) × (out' ≡ out)
 
 -- on numbers that pass the test, with a table that tells the same regions
 module _ (regions : Regions) (s out : List ℕ) (at : ℕ) (size : size_fits (length s) ≡ true) (passes : store_sound regions s ≡ true)
@@ -250,12 +249,12 @@ module _ (regions : Regions) (s out : List ℕ) (at : ℕ) (size : size_fits (le
         go (refused q) l z p = clash cc
 
     -- of every outcome that the contract of cycle::cycle allows
-    pub cycle-leaves : {s' out' log order marks : List ℕ} (c : Cycled)
-        → ((rs : List Region) → Tells table rs → Turns rs s out at s' out' log order marks c)
+    pub cycle-leaves : {s' out' log : List ℕ} (c : Result ℕ Refusal)
+        → ((rs : List Region) → Tells table rs → Turns rs s out at s' out' log c)
         → Leaves regions s out s' out' c
     unfolding Came
-    cycle-leaves {s'} {out'} (Progress n) h =
+    cycle-leaves {s'} {out'} (Ok n) h =
         let k = h (regions_of regions) tells in
         let (f, m, z) = passes_on s' out' n (k.formed (passed-formed regions s passes)) k.came.0 in
         (free-listed (state_with regions s' [] 0) (runnable regions s' (ap size_fits m ∙ size) f [] 0), f, m, z)
-    cycle-leaves (Stopped e) h = let k = h (regions_of regions) tells in (k.came.1, k.came.2)
+    cycle-leaves (Err e) h = let k = h (regions_of regions) tells in (k.came.1, k.came.2)

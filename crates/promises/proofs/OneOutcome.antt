@@ -10,8 +10,7 @@ use Rattle.paper.specs.Process.{J72, J74}
 use Rattle.paper.specs.Program.{printout}
 use Rattle.paper.proofs.Demand1.{one-outcome as same}
 use Rattle.regions.specs.declared.Regions.{Regions}
-use Rattle.sound.specs.declared.Asked.{Asked}
-use Rattle.sound.specs.declared.Asked.TheVariants.{Top, Not}
+use Rattle.std.specs.Prelude.{Result, Ok, Err}
 use Rattle.sound.specs.Store.{store_sound}
 use Rattle.sound.specs.Asked.{Asks}
 use Rattle.sound.proofs.AskLaws.{fit}
@@ -71,11 +70,11 @@ pub size-fits-coincides : (n : ℕ) {b₁ b₂ : Bool} → b₁ ≡ size_fits n 
 size-fits-coincides n = same
 
 -- sound::asks
-pub asks-coincides : (r : Regions) (s : List ℕ) (q₁ q₂ : Asked) → Asks r s q₁ → Asks r s q₂ → q₁ ≡ q₂
-asks-coincides r s (Top a) (Top b) p q = ap Top (same (sym p.end) (sym q.end))
-asks-coincides r s (Top a) (Not b) p q = let e : none ≡ some b = sym (fit r s p.size p.sound) ∙ q in cc
-asks-coincides r s (Not a) (Top b) p q = let e : none ≡ some a = sym (fit r s q.size q.sound) ∙ p in cc
-asks-coincides r s (Not a) (Not b) p q = let e : some a ≡ some b = same (sym p) (sym q) in cc
+pub asks-coincides : (r : Regions) (s : List ℕ) (q₁ q₂ : Result ℕ RunAnswer) → Asks r s q₁ → Asks r s q₂ → q₁ ≡ q₂
+asks-coincides r s (Ok a) (Ok b) p q = ap (λ n. Ok n) (same (sym p.end) (sym q.end))
+asks-coincides r s (Ok a) (Err b) p q = let e : none ≡ some b = sym (fit r s p.size p.sound) ∙ q in cc
+asks-coincides r s (Err a) (Ok b) p q = let e : none ≡ some a = sym (fit r s q.size q.sound) ∙ p in cc
+asks-coincides r s (Err a) (Err b) p q = let e : some a ≡ some b = same (sym p) (sym q) in cc
 
 -- desk::replay: how many bytes are printed, and every byte
 pub replay-coincides : (input : List ℕ) {p₁ p₂ : Printout} → p₁ ≡ printed (printout input) → p₂ ≡ printed (printout input) → p₁ ≡ p₂
