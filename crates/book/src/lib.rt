@@ -48,14 +48,11 @@ pub fn refuse_if(b: bool, e: Fault) -> Result<(), Fault>
     Ok(())
 }
 
-// Past the end there is no cell. By an index: of a write through a slice's `get_mut` the check knows nothing.
+// Past the end there is no cell.
 pub fn put(cells: &mut [u64], c: u16, x: u64)
     ensures { cells.new ≡ set cells.old c x }
 {
-    let i = usize::from(c);
-    if i < cells.len() {
-        cells[i] = x;
-    }
+    cells::set_at(cells, usize::from(c), x);
 }
 
 impl Notes {

@@ -30,14 +30,10 @@ pub(crate) fn local_at(locals: &[Local], n: u16) -> Local
     locals.get(usize::from(n)).copied().unwrap_or(UNMENTIONED)
 }
 
-// By an index: of a write through a slice's `get_mut` the check knows nothing.
 pub(crate) fn note(locals: &mut [Local], n: u16, x: Local)
     ensures { locals.new ≡ set locals.old n x }
 {
-    let i = usize::from(n);
-    if i < locals.len() {
-        locals[i] = x;
-    }
+    cells::set_at(locals, usize::from(n), x);
 }
 
 // No local is mentioned.

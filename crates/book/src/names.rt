@@ -7,12 +7,8 @@ pub(crate) fn named(names: &[bool], c: u16) -> bool
     names.get(usize::from(c)).copied().unwrap_or(false)
 }
 
-// By an index: of a write through a slice's `get_mut` the check knows nothing.
 pub(crate) fn mark(names: &mut [bool], c: u16)
     ensures { names.new ≡ set names.old c true }
 {
-    let i = usize::from(c);
-    if i < names.len() {
-        names[i] = true;
-    }
+    cells::set_at(names, usize::from(c), true);
 }

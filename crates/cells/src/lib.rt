@@ -1,7 +1,7 @@
 // A cell in one number (specs/Layout): read, tested, taken apart and made.
 #![tactic(auto)]
 
-ghost use Rattle.std.specs.Prelude.{◌≡◌};
+ghost use Rattle.std.specs.Prelude.{◌≡◌, set};
 ghost use Rattle.paper.specs.Cell.{word, free, term, process, mk_word, with_link, with_symbol, symbol_of, is_free, is_word, is_term, is_process};
 ghost use Rattle.paper.specs.Cell.{word_in, term_in, free_link};
 ghost use Rattle.paper.specs.Term.{integer, is_integer, integer_in, alike};
@@ -62,6 +62,15 @@ pub fn peek(cells: &[u64], c: u16) -> u64
     ensures { cell_in cells.now c ≡ unpack_of result }
 {
     cells.get(c as usize).copied().unwrap_or(FREE)
+}
+
+// Place i of a slice of whatever is written; past the end there is none. By an index: of a write through `get_mut` the check knows nothing.
+pub fn set_at<T: Copy>(xs: &mut [T], i: usize, x: T)
+    ensures { xs.new ≡ set xs.old i x }
+{
+    if i < xs.len() {
+        xs[i] = x;
+    }
 }
 
 pub fn is_free(x: u64) -> bool

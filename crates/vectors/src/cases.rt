@@ -1,10 +1,6 @@
 // The five kinds of case. Whether one was read lies in the input, of which no contract can speak.
-ghost use Rattle.std.specs.Prelude.{◌≡◌};
-ghost use Rattle.plain.specs.Numbers.{numbers, plain_on};
-ghost use Rattle.vectors.specs.Lines.{action_at};
-
 use crate::{answers, input};
-use paper::{RunAnswer, Symbol};
+use paper::{LoadAnswer, RunAnswer, Symbol};
 use regions::Regions;
 use std::io::Read;
 
@@ -43,7 +39,7 @@ fn load_and_run(rt: &impl Print, cells: &mut [u64], deck: &[u8], budget: u32, ou
     answers::text(rt, b"R ");
     answers::load(rt, a);
     answers::text(rt, b" ");
-    if a.number() == 0 {
+    if a == LoadAnswer::Loaded {
         run(rt, cells, r, budget, out);
         return;
     }
@@ -68,33 +64,25 @@ fn walk(rt: &impl Print, cells: &[u64], regions: Regions, x: Symbol) {
     answers::text(rt, b"\n");
 }
 
-fn act(cells: &mut [u64], regions: Regions, action: u8) -> RunAnswer
-    ensures { numbers result cells.new ≡ plain_on (action_at action) regions cells.old }
-{
-    match action {
-        0 => plain::preserve(cells, regions),
-        1 => plain::copy(cells, regions),
-        _ => plain::erase(cells, regions),
-    }
-}
-
 // One of the three plain actions, unless one before was refused: whether it finished. Refused, it leaves the cells as they were.
-fn plainly(
+fn plainly<F: Fn(&mut [u64], Regions) -> RunAnswer>(
     rt: &impl Print,
     cells: &mut [u64],
     regions: Regions,
-    action: u8,
+    act: F,
     reached: bool,
-) -> bool {
+) -> bool
+    requires { (x : _) → F.pre act x regions }
+{
     if !reached {
         answers::text(rt, b" -");
         return false;
     }
     let before = answers::digest(cells);
-    let a = act(cells, regions, action);
+    let a = act(cells, regions);
     answers::text(rt, b" ");
     answers::number(rt, a.number() as u64);
-    if a.number() == 0 {
+    if a == RunAnswer::Finished {
         return true;
     }
     if before != answers::digest(cells) {
@@ -107,9 +95,9 @@ fn plainly(
 fn demand3(rt: &impl Print, cells: &mut [u64], regions: Regions) {
     let given = answers::digest(cells);
     answers::text(rt, b"D");
-    let preserved = plainly(rt, cells, regions, 0, true);
-    let copied = plainly(rt, cells, regions, 1, preserved);
-    let erased = plainly(rt, cells, regions, 2, copied);
+    let preserved = plainly(rt, cells, regions, plain::preserve, true);
+    let copied = plainly(rt, cells, regions, plain::copy, preserved);
+    let erased = plainly(rt, cells, regions, plain::erase, copied);
     if erased {
         answers::end(rt, answers::digest(cells));
         return;

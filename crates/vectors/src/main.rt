@@ -16,7 +16,7 @@ const UNREAD: u64 = 1;
 // Enough for a deck or the room of a run, whose length in a case has two bytes.
 const MANY_BYTES: usize = 65536;
 
-// A proved loop has to end, and nothing says that the input does: so the turns are counted down, from more than any input has cases.
+// A proved loop has to end, and nothing says that the input does: there are more turns than any input has cases.
 fn all(
     rt: &impl Print,
     stdin: &mut impl Read,
@@ -24,9 +24,10 @@ fn all(
     bytes: &mut [u8],
     out: &mut [u8],
 ) {
-    let mut turns = u64::MAX;
-    while 0 < turns && cases::next(rt, stdin, cells, bytes, out) {
-        turns -= 1;
+    for _ in 0..u64::MAX {
+        if !cases::next(rt, stdin, cells, bytes, out) {
+            return;
+        }
     }
 }
 
