@@ -1,4 +1,4 @@
--- The digest of the cells, what stood where nothing was written, and digits; and the three plain actions by their place in a case.
+-- The digest of the cells, what stood where nothing was written, and digits.
 use Rattle.std.specs.Prelude.{ℕ, ◌+◌, ◌*◌, ◌/◌, ◌%◌, Bool, cond, List, eqb, ltb}
 use Rattle.std.specs.List.{fold, list_all}
 
