@@ -38,7 +38,7 @@ pub struct Notes {
     pub waiting: u16,
 }
 
-// A test: a fault where b holds.
+// A test: a fault where b holds. It and undo's are two, since a clause can't range over the type of the states that a test leaves as they are.
 pub fn refuse_if(b: bool, e: Fault) -> Result<(), Fault>
     ensures { Told Always (refuse_if b e) result }
 {

@@ -40,6 +40,7 @@ pub const SORTS: u64 = 0x200000000;
 // The integer 0.
 pub const ZERO: u32 = 0x80000000;
 
+// P and Q stay numbers: the paper computes with them, and a store that is not sound has larger ones.
 #[derive(Clone, Copy)]
 pub struct Word {
     pub p: u8,

@@ -27,7 +27,8 @@ mod fetched;
 mod past;
 mod tally;
 
-// A process that prints nothing, by its family. J1 is not among them: it is done before.
+// A process that prints nothing, by its family. J1 is not among them: it is done before. A process stays its number, which the paper's table
+// computes with: any number is a value, and most are 28.
 fn by_family(
     cells: &mut [u64],
     log: &mut [u64],

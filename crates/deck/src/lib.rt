@@ -36,6 +36,7 @@ struct Placed {
     regions: Regions,
 }
 
+// The answer of a load, and the regions, none where it is refused: a caller may run what a refusal left, so that both stand side by side.
 #[derive(Clone, Copy)]
 pub struct Loaded {
     pub answer: LoadAnswer,

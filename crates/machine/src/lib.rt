@@ -18,7 +18,7 @@ const LOG: usize = 2 * (2 * limits::LARGEST_N + 41) + 5;
 // In the width of the log.
 const UNREAD: u64 = undo::UNREAD as u64;
 
-// The answer of a run, the cycles done, and how many bytes its lines have.
+// The answer of a run, the cycles done, and how many bytes its lines have: these two hold whatever the answer is.
 #[derive(Clone, Copy)]
 pub struct Ran {
     pub answer: RunAnswer,

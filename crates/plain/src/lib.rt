@@ -87,7 +87,7 @@ pub fn erase(cells: &mut [u64], regions: Regions) -> RunAnswer
     plainly(cells, regions, structures::j72)
 }
 
-// The cells of a walk: the first n, in walk order, and zeros.
+// The cells of a walk: the first n, in walk order, and zeros; a caller outside is handed them whole, with none where the walk is refused.
 #[derive(Clone, Copy)]
 pub struct Met {
     pub answer: RunAnswer,

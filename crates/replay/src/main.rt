@@ -9,6 +9,7 @@ use std::io;
 use std::io::Read;
 
 // Reads until the buffer is full, the input ends or a read fails: how many bytes it put at the start of the buffer.
+// The input says where it ends, and a read may give a part: no range or iterator does.
 fn read_full(stdin: &mut impl Read, bytes: &mut [u8]) -> usize
     ensures { result ≤ length bytes.new }
 {

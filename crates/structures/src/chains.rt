@@ -36,6 +36,7 @@ fn arrive(cells: &[u64], marks: &Marks, c: u16) -> Result<u64, Refusal>
     refused(cells, marks, c)
 }
 
+// From head along the LINKs, which say where it ends.
 fn chain_links(
     cells: &[u64],
     order: &mut Order,

@@ -6,7 +6,8 @@ ghost use Rattle.structures.specs.Marks.{blank, Only};
 use crate::{MANY_NUMBERS, Marks, Order};
 use paper::limits;
 
-// What a walk is lent: an order for the cells that it meets, and marks. No cell is marked but while a walk or a copy goes on.
+// What a walk is lent: an order for the cells that it meets, and marks. No cell is marked but while a walk or a copy goes on: there the two
+// are lent one by one.
 #[derive(Drop)]
 pub struct Scratch {
     pub(crate) order: Order,

@@ -61,7 +61,7 @@ fn arrive(cells: &[u64], marks: &Marks, linked: bool, depth: usize, c: u16) -> R
     refused(cells, marks, linked, depth, c)
 }
 
-// From head along the LINKs; after each cell the list that it names.
+// From head along the LINKs; after each cell the list that it names. The LINKs say where it ends, and no range does.
 #[cycle(enter_sublist_walk_links)]
 fn walk_links(
     cells: &[u64],
