@@ -70,6 +70,7 @@ pub fn word_to(cells: &[u64], c: u16) -> Result<u64, Refusal>
     word_at(cells, c)
 }
 
+// As `word_at`, of the other kind; the tests and what is read differ, and handed in as functions they would be no plainer.
 pub fn term_at(cells: &[u64], c: u16) -> Result<u64, Refusal>
     ensures { ReadsAs term_of Always (term_at c) cells result }
 {
@@ -250,6 +251,7 @@ pub fn store(cells: &mut [u64], log: &mut [u64], c: u16, x: Symbol) -> Result<()
     Ok(())
 }
 
+// A cell of the machine's own is asked nothing, in the definitions too: so `own_preserve`, `own_restore` and `own_store` stand by themselves.
 pub fn own_preserve(cells: &mut [u64], log: &mut [u64], c: u16) -> Result<(), Refusal>
     requires { Room log.old (1 + writes c) }
     ensures { Did Always (1 + writes c) (own_preserve c) cells log result }

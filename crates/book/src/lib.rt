@@ -30,7 +30,8 @@ use paper::{Fault, Field, limits};
 use records::Name;
 use regions::Regions;
 
-// Whether a word has come and whether a structure is open, and the cell whose blank LINK the next record fills.
+// Whether a word has come and whether a structure is open, and the cell whose blank LINK the next record fills,
+// 0 where none waits, as in the definitions: no word of a deck stands in cell 0.
 #[derive(Clone, Copy)]
 pub struct Notes {
     pub words: bool,

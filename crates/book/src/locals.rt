@@ -6,7 +6,7 @@ ghost use Rattle.book.specs.Kept.{local_of, locals_of, unmentioned};
 
 use paper::limits;
 
-// Its cell, 0 before its first mention, and whether it has a word.
+// Its cell, 0 before its first mention as in the definitions, and whether it has a word.
 #[derive(Clone, Copy)]
 pub struct Local {
     pub cell: u16,

@@ -28,7 +28,7 @@ struct Entry {
     link: Field,
 }
 
-// What a record comes to: was it the start?
+// What a record comes to: was it the start, and what is noted? No fault, which is the other side of a Result.
 #[derive(Clone, Copy)]
 struct Placed {
     last: bool,
@@ -43,7 +43,8 @@ pub struct Loaded {
     pub regions: Regions,
 }
 
-// Cells, names and locals are lent one by one: a struct of them would cost each contract a second clause, that the references stay the same.
+// Cells, names and locals are lent one by one: a struct of them would cost each contract a second clause, that the references stay the same,
+// and one that owns them would hold a place for each cell that a store can have.
 
 // Kinds 2 and 3; cells "in the order NAME, SYMB, LINK".
 fn load_word(

@@ -54,7 +54,7 @@ fn operated(minus: bool, x: f32, y: f32) -> f32
     if minus { difference(x, y) } else { sum(x, y) }
 }
 
-// The sum, or the difference where `minus` holds: its bits, where it is finite.
+// The sum, or the difference where `minus` holds: its bits, where it is finite. J110 and J111 differ in nothing else, so a bool says which.
 pub fn combined(minus: bool, a: u32, b: u32) -> Option<u32>
     ensures { result ≡ kept_of ((operation_of minus).of_floats (float_of a) (float_of b)) }
 {

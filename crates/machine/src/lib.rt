@@ -44,7 +44,8 @@ fn finished(cells: &[u64]) -> bool
     (h / cells::SYMB % 65536 == 0) & (h % 65536 == 0)
 }
 
-// "The finish is looked for before the budget." The finish ends the loop, as no range can, so the cycles are counted beside it.
+// "The finish is looked for before the budget." The finish ends the loop: over a range of cycles it would be
+// asked for again behind the loop, so they are counted by hand.
 fn cycles(
     cells: &mut [u64],
     log: &mut [u64],

@@ -22,7 +22,7 @@ type Line = [u8; limits::LONGEST_LINE];
 
 // The decimal digits of n, or where k are too few its last k.
 fn digits(line: &mut Line, at: usize, k: usize, n: u32) -> usize
-    requires { (length line.old ≡ longest_line) × (at + k ≤ longest_line) }
+    requires { (at + k ≤ longest_line) }
     ensures { Writes line.old at (digits_by k n) line.new result }
 {
     if k == 0 {
@@ -39,7 +39,7 @@ fn digits(line: &mut Line, at: usize, k: usize, n: u32) -> usize
 
 // The digits of a cell's number.
 fn number(line: &mut Line, at: usize, n: u16) -> usize
-    requires { (length line.old ≡ longest_line) × (at + cell_digits ≤ longest_line) }
+    requires { (at + cell_digits ≤ longest_line) }
     ensures { Writes line.old at (digits n) line.new result × (result ≤ at + cell_digits) }
 {
     digits(line, at, limits::CELL_DIGITS, u32::from(n))
@@ -47,7 +47,6 @@ fn number(line: &mut Line, at: usize, n: u16) -> usize
 
 // The integer v - 2^31.
 fn integer_text(line: &mut Line, v: u32) -> usize
-    requires { length line.old ≡ longest_line }
     ensures { Text longest_line line.old (integer_text (value_of v)) line.new result }
 {
     if v < cells::ZERO {
@@ -70,7 +69,7 @@ fn hex_digit(d: u8) -> u8
 
 // The last k hex digits of n. `digits` stops at the first, and this keeps leading zeros: no function of a base is both.
 fn hex(line: &mut Line, at: usize, k: usize, n: u32) -> usize
-    requires { (length line.old ≡ longest_line) × (at + k ≤ longest_line) }
+    requires { (at + k ≤ longest_line) }
     ensures { Writes line.old at (hex_by k n) line.new result }
 {
     if k == 0 {
@@ -83,7 +82,6 @@ fn hex(line: &mut Line, at: usize, k: usize, n: u32) -> usize
 
 // A data term of either sort.
 fn term_text(line: &mut Line, x: u64) -> usize
-    requires { length line.old ≡ longest_line }
     ensures { Text longest_line line.old (term_text (term_of x)) line.new result }
 {
     if cells::is_integer(x) {
@@ -94,7 +92,6 @@ fn term_text(line: &mut Line, x: u64) -> usize
 
 // A cell by its letter and number, or by its number alone.
 fn cell_text(line: &mut Line, table: &Table, c: u16) -> usize
-    requires { length line.old ≡ longest_line }
     ensures { Text longest_symbol_line line.old (cell_text c (letters_of (rows_of table.now) c)) line.new result }
 {
     match regions::letters_of(table, c) {
@@ -108,7 +105,6 @@ fn cell_text(line: &mut Line, table: &Table, c: u16) -> usize
 
 // "`9-` and its number"
 fn local_text(line: &mut Line, c: u16) -> usize
-    requires { length line.old ≡ longest_line }
     ensures { Text longest_symbol_line line.old (local_text c) line.new result }
 {
     line[0] = b'9';
@@ -118,7 +114,6 @@ fn local_text(line: &mut Line, c: u16) -> usize
 
 // A symbol by its tag: local; regional; internal.
 fn symbol_text(line: &mut Line, table: &Table, x: Symbol) -> usize
-    requires { length line.old ≡ longest_line }
     ensures { Text longest_symbol_line line.old (symbol_text (rows_of table.now) x) line.new result }
 {
     match x.tag {
@@ -130,7 +125,7 @@ fn symbol_text(line: &mut Line, table: &Table, x: Symbol) -> usize
 
 // "then one line feed"
 fn end_line(line: &mut Line, at: usize) -> usize
-    requires { (length line.old ≡ longest_line) × (at < longest_line) }
+    requires { (at < longest_line) }
     ensures { Writes line.old at (10 ∷ []) line.new result }
 {
     line[at] = b'\n';
@@ -139,7 +134,7 @@ fn end_line(line: &mut Line, at: usize) -> usize
 
 // The line goes out, from byte `at` on.
 fn write_line(out: &mut [u8], at: usize, line: &Line, len: usize) -> usize
-    requires { (at + len ≤ length out.old) × (length line.now ≡ longest_line) × (len ≤ longest_line) }
+    requires { (at + len ≤ length out.old) × (len ≤ longest_line) }
     ensures { (result ≡ at + len) × (out.new ≡ paste out.old at line.now len) }
 {
     out[at..at + len].copy_from_slice(&line[..len]);
@@ -167,7 +162,7 @@ fn print(
     line: &mut Line,
     n: usize,
 ) -> Result<usize, Refusal>
-    requires { Room log.old 1 × Told table.now × (at ≤ length out.old) × (length line.old ≡ longest_line) × (n < longest_line) }
+    requires { Room log.old 1 × Told table.now × (at ≤ length out.old) × (n < longest_line) }
     ensures { Prints (print_pop (take n line.old)) tt cells log table out at result }
 {
     let len = end_line(line, n);

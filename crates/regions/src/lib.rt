@@ -112,7 +112,7 @@ impl Regions {
         true
     }
 
-    // The cell of a symbol of a deck region; 0 where there is none.
+    // The cell of a symbol of a deck region; 0 where there is none, as in the definitions.
     fn in_deck(self, b: u8, n: u16) -> u16
         requires { Laid self }
         ensures { result ≡ cell_from (regions_of self) first_deck b n }

@@ -9,7 +9,8 @@ use crate::scratch::{Scratch, clear, enlist, mark_at};
 use crate::{Marks, Order};
 use paper::{Refusal, limits};
 
-// Whether the cell c, which holds x, may come next: a word that is no cell of the machine's own and has not been met.
+// Whether the cell c, which holds x, may come next: a word that is no cell of the machine's own and has not been met. A walk asks other
+// things, of other cells, in another order (walks.rt), so that the three functions here and there are no twins.
 fn fine(marks: &Marks, c: u16, x: u64) -> bool
     ensures { result ≡ true → FineLink marks.now c (unpack_of x) }
 {

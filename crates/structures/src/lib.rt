@@ -19,12 +19,12 @@ pub use scratch::Scratch;
 pub use walks::walk;
 
 // A cell is named by a number of 16 bits, and there is a mark for each.
-const MANY_NUMBERS: usize = 65536;
+pub const MANY_NUMBERS: usize = 65536;
 
 // The cells met, one after another; a number for each cell, 0 where it has not been met.
 pub type Order = [u16; limits::LARGEST_N];
 
-type Marks = [u16; MANY_NUMBERS];
+pub type Marks = [u16; MANY_NUMBERS];
 
 // J71 to J74, of which those named are listed.
 pub fn on_structures(

@@ -10,8 +10,8 @@ use paper::limits;
 // are lent one by one.
 #[derive(Drop)]
 pub struct Scratch {
-    pub(crate) order: Order,
-    pub(crate) marks: Marks,
+    pub order: Order,
+    pub marks: Marks,
     ghost unmarked: { marks ≡ blank },
 }
 

@@ -17,4 +17,4 @@ returns t c =
     let first = c.hex-end.ensures in
     let digit = ap (λ (d : ℕ). hex_by (a.k - 1) (a.n / 16) ++ (d ∷ [])) c.hex_digit.ensures in
     writes_as (digit ∙ hex-more _ _ c.if-k-eq0.false)
-    (writes_more first (writes_one _ _ _ (omega (arith, first.end, hex-length (a.k - 1) (a.n / 16), first.sized, c.requires.0))))
+    (writes_more first (writes_one _ _ _ (omega (arith, first.end, hex-length (a.k - 1) (a.n / 16), first.sized, c.told-line))))

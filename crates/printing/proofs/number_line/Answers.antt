@@ -7,7 +7,7 @@ use Rattle.printing.proofs.number_line.Goals as goal
 pub end_line-len-requires : goal.end_line-len-requires
 end_line-len-requires c =
     let w = c.digits-end.ensures in
-    (w.sized, omega (arith, w.end, digits-length most_digits c.args.n))
+    omega (arith, w.end, digits-length most_digits c.args.n)
 
 pub returns : goal.returns
 returns c =
