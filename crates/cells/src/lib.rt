@@ -165,7 +165,8 @@ pub fn symbol(x: u64) -> Symbol
     }
 }
 
-// The numbers of cells to be written. A word is any number: only its fields count.
+// The numbers of cells to be written. A word is any number: only its fields count. They are widened by `as`, as the consts above must be:
+// `u64::from(p) * P` is no plainer.
 pub fn of_word(x: u64) -> u64
     ensures { Packs result (word (word_of x)) }
 {

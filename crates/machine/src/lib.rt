@@ -15,9 +15,6 @@ use structures::Scratch;
 // A cycle logs at most two writes a cell and 41 more. The log takes two numbers a write, one to count them, and four for the cells it saves.
 const LOG: usize = 2 * (2 * limits::LARGEST_N + 41) + 5;
 
-// In the width of the log.
-const UNREAD: u64 = undo::UNREAD as u64;
-
 // The answer of a run, the cycles done, and how many bytes its lines have: these two hold whatever the answer is.
 #[derive(Clone, Copy)]
 pub struct Ran {
@@ -86,7 +83,7 @@ pub fn run(cells: &mut [u64], regions: Regions, budget: u32, out: &mut [u8]) -> 
                 return came_to(RunAnswer::NotSound, 0, 0);
             }
             let table = regions.table();
-            let mut log = [UNREAD; LOG];
+            let mut log = [undo::UNREAD; LOG];
             let mut scratch = Scratch::new();
             cycles(cells, &mut log, &mut scratch, &table, budget, out)
         }

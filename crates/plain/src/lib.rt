@@ -20,9 +20,6 @@ use structures::{Order, Scratch};
 // A copy makes a write a cell and three more; the log takes two numbers a write, one to count them and four for the cells it saves.
 const LOG: usize = 2 * (limits::LARGEST_N + 3) + 5;
 
-// In the width of the log.
-const UNREAD: u64 = undo::UNREAD as u64;
-
 // What was refused is undone.
 fn settle(cells: &mut [u64], log: &[u64], outcome: Result<(), Refusal>) -> RunAnswer
     requires { Room log.now 0 }
@@ -53,7 +50,7 @@ fn plainly<F: Fn(&mut [u64], &mut [u64], &mut Scratch, u16) -> Result<(), Refusa
     match sound::asks(cells, regions) {
         Err(answer) => answer,
         Ok(top) => {
-            let mut log = [UNREAD; LOG];
+            let mut log = [undo::UNREAD; LOG];
             let mut scratch = Scratch::new();
             undo::begin(cells, &mut log);
             let outcome = act(cells, &mut log, &mut scratch, top);

@@ -18,7 +18,7 @@ pub struct Scratch {
 impl Scratch {
     pub fn new() -> Self {
         Scratch {
-            order: [undo::UNREAD; limits::LARGEST_N],
+            order: [undo::UNREAD as u16; limits::LARGEST_N],
             marks: [0; MANY_NUMBERS],
         }
     }
