@@ -22,7 +22,7 @@ type Line = [u8; limits::LONGEST_LINE];
 
 // The decimal digits of n, or where k are too few its last k.
 fn digits(line: &mut Line, at: usize, k: usize, n: u32) -> usize
-    requires { (at + k ≤ longest_line) }
+    requires { at + k ≤ longest_line }
     ensures { Writes line.old at (digits_by k n) line.new result }
 {
     if k == 0 {
@@ -39,7 +39,7 @@ fn digits(line: &mut Line, at: usize, k: usize, n: u32) -> usize
 
 // The digits of a cell's number.
 fn number(line: &mut Line, at: usize, n: u16) -> usize
-    requires { (at + cell_digits ≤ longest_line) }
+    requires { at + cell_digits ≤ longest_line }
     ensures { Writes line.old at (digits n) line.new result × (result ≤ at + cell_digits) }
 {
     digits(line, at, limits::CELL_DIGITS, u32::from(n))
@@ -69,7 +69,7 @@ fn hex_digit(d: u8) -> u8
 
 // The last k hex digits of n. `digits` stops at the first, and this keeps leading zeros: no function of a base is both.
 fn hex(line: &mut Line, at: usize, k: usize, n: u32) -> usize
-    requires { (at + k ≤ longest_line) }
+    requires { at + k ≤ longest_line }
     ensures { Writes line.old at (hex_by k n) line.new result }
 {
     if k == 0 {
@@ -125,7 +125,7 @@ fn symbol_text(line: &mut Line, table: &Table, x: Symbol) -> usize
 
 // "then one line feed"
 fn end_line(line: &mut Line, at: usize) -> usize
-    requires { (at < longest_line) }
+    requires { at < longest_line }
     ensures { Writes line.old at (10 ∷ []) line.new result }
 {
     line[at] = b'\n';
