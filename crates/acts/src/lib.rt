@@ -341,7 +341,7 @@ fn stays(cells: &mut [u64], log: &mut [u64], top: u16, x: Symbol) -> Result<(), 
     Ok(())
 }
 
-// In a sound store H2 is a word, and the cell that is freed is taken again.
+// In a sound store H2 is a word, and the cell that is freed is taken again: a pop and a push as one write, which no loop of pops has.
 pub fn gives1(cells: &mut [u64], log: &mut [u64], top: u16, x: Symbol) -> Result<(), Refusal>
     requires { Suits log.old 2 top }
     ensures { Did (Top top) 2 (gives 1 x) cells log result }

@@ -44,7 +44,7 @@ pub struct Loaded {
 }
 
 // Cells, names and locals are lent one by one: a struct of them would cost each contract a second clause, that the references stay the same,
-// and one that owns them would hold a place for each cell that a store can have.
+// and one that owns them would hold a place for each cell that a store can have. So that names are as many as cells is asked (`Sized`).
 
 // Kinds 2 and 3; cells "in the order NAME, SYMB, LINK".
 fn load_word(

@@ -102,7 +102,7 @@ fn compares(cells: &mut [u64], log: &mut [u64], top: u16, k: Ordering) -> Result
     acts::tests::<2>(cells, log, top, terms::holds(k, p))
 }
 
-// J117, J118, J119.
+// J117, J118, J119: of one term, whose other is the zero of its sort.
 fn compares0(cells: &mut [u64], log: &mut [u64], top: u16, k: Ordering) -> Result<(), Refusal>
     requires { Suits log.old 1 top }
     ensures { Did (Top top) 1 (compares0 (relation_of k)) cells log result }

@@ -18,6 +18,7 @@ use regions::Regions;
 use structures::{Order, Scratch};
 
 // A copy makes a write a cell and three more; the log takes two numbers a write, one to count them and four for the cells it saves.
+// A run's is longer, and an array's size is no result of a function: so each has its own.
 const LOG: usize = 2 * (limits::LARGEST_N + 3) + 5;
 
 // What was refused is undone.

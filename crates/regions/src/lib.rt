@@ -28,7 +28,8 @@ pub type Table = [u32; PLACES];
 const PLACES: usize = 1 + limits::MANY_REGIONS;
 
 // Letter and count of the first n deck regions, in record order. There are 23 letters besides H, W and J. The arrays and n lie open, since a
-// caller of a run may hand in any, n above 23 and letters that repeat among them, and `regions_sound` answers for all of these.
+// caller of a run may hand in any, n above 23 and letters that repeat among them, and `regions_sound` answers for all of these. So what a table laid or told has
+// (`Laid`, `Made`, `Told`) is asked where it is used, and no type promises it.
 #[derive(Clone, Copy)]
 pub struct Regions {
     pub letters: [u8; limits::MANY_REGIONS],
