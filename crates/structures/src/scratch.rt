@@ -16,7 +16,10 @@ pub struct Scratch {
 }
 
 impl Scratch {
-    pub fn new() -> Self {
+    // The order is not read before it is written, so only the marks are told of.
+    pub fn new() -> Self
+        ensures { result.marks ≡ blank }
+    {
         Scratch {
             order: [undo::UNREAD as u16; limits::LARGEST_N],
             marks: [0; MANY_NUMBERS],

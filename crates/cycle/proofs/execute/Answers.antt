@@ -76,7 +76,9 @@ returns-in_err-descend c =
     let m = c.in_ok-t.ensures in
     let own = c.in_ok-not_own.ensures in
     let e = c.in_err-descend.ensures in
-    rw (same_err c.from_residual-in_err-descend.ensures.1) (descended _ c.top_of.ensures.0 p m own _ _ _ c.requires.within (omega arith) (sym c.is_process.ensures ∙ c.if-is_process.false) (Err _) refl e)
+    rw (same_err c.from_residual-in_err-descend.ensures.1)
+    (descended _ c.top_of.ensures.0 p m own _ _ _ c.requires.within (omega arith) (sym c.is_process.ensures ∙ c.if-is_process.false) (Err _)
+    refl e)
 
 pub returns : goal.returns
 unfolding Past

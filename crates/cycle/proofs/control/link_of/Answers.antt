@@ -15,7 +15,11 @@ returns-in_err-refuse_if c = let h0 = c.in_ok-x.ensures in let e = c.in_err-refu
 
 pub returns-in_err-not_own : goal.returns-in_err-not_own
 unfolding link_of
-returns-in_err-not_own c = let h0 = c.in_ok-x.ensures in let h1 = c.in_ok-refuse_if.ensures in let e = c.in_err-not_own.ensures in rw (same_err c.from_residual-in_err-not_own.ensures.1) (search lines depth 20)
+returns-in_err-not_own c =
+    let h0 = c.in_ok-x.ensures in
+    let h1 = c.in_ok-refuse_if.ensures in
+    let e = c.in_err-not_own.ensures in
+    rw (same_err c.from_residual-in_err-not_own.ensures.1) (search lines depth 20)
 
 pub returns : goal.returns
 unfolding link_of
