@@ -35,7 +35,9 @@ fn settle(cells: &mut [u64], log: &[u64], outcome: Result<(), Refusal>) -> RunAn
     }
 }
 
-// An action outside any cycle: what the store is asked first, the action itself, and its end.
+// An action outside any cycle: what the store is asked first, the action itself, and its end. Its log and its scratch lie on the stack while
+// it goes on, and not for as long as its caller does.
+#[inline(never)]
 fn plainly<F: Fn(&mut [u64], &mut [u64], &mut Scratch, u16) -> Result<(), Refusal>>(
     cells: &mut [u64],
     regions: Regions,

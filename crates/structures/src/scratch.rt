@@ -12,16 +12,16 @@ use paper::limits;
 pub struct Scratch {
     pub order: Order,
     pub marks: Marks,
-    ghost unmarked: { marks ≡ blank },
+    pub ghost unmarked: { marks ≡ blank },
 }
 
 impl Scratch {
-    // The order is not read before it is written, so only the marks are told of.
+    // The order is not read before it is written, so only the marks are told of. Zeros, as the marks are, for `Scratch` to be laid where it stays.
     pub fn new() -> Self
         ensures { result.marks ≡ blank }
     {
         Scratch {
-            order: [undo::UNREAD as u16; limits::LARGEST_N],
+            order: [0; limits::LARGEST_N],
             marks: [0; MANY_NUMBERS],
         }
     }
