@@ -1,5 +1,5 @@
 -- What the code keeps while it loads, as the book of the definitions.
-use Rattle.std.specs.Prelude.{ℕ, Bool, true, false, List, map, ◌≡◌}
+use Rattle.std.specs.Prelude.{ℕ, ◌%◌, Bool, true, false, List, map, ◌≡◌, leb}
 use Rattle.paper.specs.Cell.{Region}
 use Rattle.paper.specs.Deck.{LocalCell, Book}
 use Rattle.cells.specs.Bridge.{unpacked}
@@ -10,13 +10,13 @@ use Rattle.book.specs.declared.Notes.{Notes}
 
 -- a local as the definitions have it
 abbrev pub local_of : Local → LocalCell
-local_of x = record { cell = x.cell; has_word = x.has_word }
+local_of x = record { cell = x.bits % 65536; has_word = leb 65536 x.bits }
 
 abbrev pub locals_of : List Local → List LocalCell
 locals_of l = map local_of l
 
 abbrev pub unmentioned : Local
-unmentioned = record { cell = 0; has_word = false }
+unmentioned = record { bits = 0 }
 
 -- the regions, the notes, the locals, the numbers of the cells, and the names
 pub record Held : Type 0 where

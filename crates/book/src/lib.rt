@@ -86,14 +86,7 @@ fn new_local(cells: &mut [u64], locals: &mut Locals, n: u16) -> Result<u16, Faul
     ensures { OnLocals (new_local n) locals cells result }
 {
     let c = take_cell(cells)?;
-    note(
-        locals,
-        n,
-        Local {
-            cell: c,
-            has_word: false,
-        },
-    );
+    note(locals, n, Local::new(c, false));
     Ok(c)
 }
 
@@ -101,7 +94,7 @@ fn new_local(cells: &mut [u64], locals: &mut Locals, n: u16) -> Result<u16, Faul
 fn mention(cells: &mut [u64], locals: &mut Locals, n: u16) -> Result<u16, Fault>
     ensures { OnLocals (mention n) locals cells result }
 {
-    let c = local_at(locals, n).cell;
+    let c = local_at(locals, n).cell();
     if c == 0 {
         return new_local(cells, locals, n);
     }
@@ -143,7 +136,7 @@ pub fn name_fits(
         }
         Name::Local(n) => {
             refuse_if(
-                ((w != 0) & !word) | !notes.opened | local_at(locals, n).has_word,
+                ((w != 0) & !word) | !notes.opened | local_at(locals, n).has_word(),
                 Fault::BadName,
             )
         }
@@ -186,14 +179,7 @@ fn define_local(cells: &mut [u64], locals: &mut Locals, n: u16) -> Result<u16, F
     ensures { OnLocals (cell_for (as_local n)) locals cells result }
 {
     let c = mention(cells, locals, n)?;
-    note(
-        locals,
-        n,
-        Local {
-            cell: c,
-            has_word: true,
-        },
-    );
+    note(locals, n, Local::new(c, true));
     Ok(c)
 }
 

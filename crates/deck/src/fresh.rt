@@ -36,9 +36,13 @@ fn fresh_cell(size: usize, end: usize, c: usize) -> u64
     requires { (size ≤ largest_n) × (c ≤ largest_n) }
     ensures { Packs result (fresh_cell size end c) }
 {
+    if FIRST_DECK <= c {
+        if c < end {
+            return cells::EMPTY;
+        }
+        return cells::of_free(next_free(size, c + 1));
+    }
     match c {
-        FIRST_DECK.. if c < end => cells::EMPTY,
-        FIRST_DECK.. => cells::of_free(next_free(size, c + 1)),
         J0.. => cells::of_process(),
         0 => cells::of_fields(0, 0, 0, 0),
         H2 => {
@@ -51,6 +55,8 @@ fn fresh_cell(size: usize, end: usize, c: usize) -> u64
 }
 
 // "The free list starts ascending", "Undefined regional cells are empty words", "H0, W and the rest of H are empty"; H3 counts from 0.
+// By itself, and not inside the loader, the loop keeps its constants in registers.
+#[inline(never)]
 fn lay(cells: &mut [u64], end: usize)
     requires { length cells.old ≤ largest_n }
     ensures { (unpacked cells.new ≡ cells_from (fresh_cell (length cells.old) end) (length cells.old) 0)

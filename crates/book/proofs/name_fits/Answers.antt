@@ -35,11 +35,11 @@ returns-in-Local c =
     by-case (λ x. name_fits c.args.word (name_of x)) c.in-Local.is
     (sees _ (told_part _ (λ t h. h.waiting))
     (or-tells _ _ _
-    (any (when BadName (or_assoc w (not c.args.notes.opened) c.local_at.result.has_word) c.refuse_if-in-Local.ensures))
+    (any (when BadName (or_assoc w (not c.args.notes.opened) c.has_word.result) c.refuse_if-in-Local.ensures))
     (λ d. sees _ (told_part _ (λ t h. h.opened))
     (or-tells _ _ _ d
     (λ d. sees _ (told_part _ (λ t h. ap (λ ls. local_at ls c.in-Local.n) h.locals))
-    (when BadName (ap (λ (x : LocalCell). x.has_word) c.local_at.ensures) d))))))
+    (when BadName (c.has_word.ensures ∙ ap (λ (x : LocalCell). x.has_word) c.local_at.ensures) d))))))
 
 pub returns-in-Blank : goal.returns-in-Blank
 unfolding name_fits

@@ -6,14 +6,23 @@ use Rattle.paper.specs.declared.Symbol.{Symbol}
 use Rattle.paper.specs.Cell.{word, free, mk_word, empty_word}
 use Rattle.deck.proofs.fresh.fresh_cell.Goals as goal
 
+pub returns-then-c-end : goal.returns-then-c-end
+returns-then-c-end c = packs-as (f-region _ _ _ c.if-c-ge-FIRST_DECK.true c.if-c-end.true) empty-packs
+
+pub returns-then-c-ge-FIRST_DECK : goal.returns-then-c-ge-FIRST_DECK
+returns-then-c-ge-FIRST_DECK c =
+    let a = c.args in
+    packs-as
+    (f-free _ _ _ c.if-c-ge-FIRST_DECK.true c.if-c-end.false ∙ ap free (sym (c.next_free.ensures ∙ ap (next_free a.size) (add-one a.c)))) c.of_free.ensures
+
 pub returns-in-0 : goal.returns-in-0
 returns-in-0 c = packs-as (f-zero _ _ _ (omega arith)) c.of_fields.ensures
 
 pub returns-in-3 : goal.returns-in-3
 returns-in-3 c =
     packs-as
-    (f-H2 _ _ _ (omega arith) ∙ ap (λ n. word (empty_word n)) (sym c.next_free.ensures)
-    ∙ ap (λ (x : Symbol). word (mk_word 0 x.tag x.num c.next_free.result)) (sym c.empty-x.ensures))
+    (f-H2 _ _ _ (omega arith) ∙ ap (λ n. word (empty_word n)) (sym c.next_free-in-3.ensures)
+    ∙ ap (λ (x : Symbol). word (mk_word 0 x.tag x.num c.next_free-in-3.result)) (sym c.empty-x.ensures))
     c.of_fields-in-3.ensures
 
 pub returns-in-4 : goal.returns-in-4
@@ -24,13 +33,4 @@ returns-in_default c =
     packs-as (f-HW _ _ _ (λ e. omega arith) (λ e. omega arith) (λ e. omega arith) (omega arith)) empty-packs
 
 pub returns-in-21-to-max : goal.returns-in-21-to-max
-returns-in-21-to-max c = packs-as (f-J _ _ _ (omega arith) (omega arith)) c.of_process.ensures
-
-pub returns-in-221-to-max : goal.returns-in-221-to-max
-returns-in-221-to-max c = packs-as (f-region _ _ _ (omega arith) (omega arith)) empty-packs
-
-pub returns-in-221-to-max-2 : goal.returns-in-221-to-max-2
-returns-in-221-to-max-2 c =
-    let a = c.args in
-    packs-as
-    (f-free _ _ _ (omega arith) (omega arith) ∙ ap free (sym (c.next_free-in-221-to-max-2.ensures ∙ ap (next_free a.size) (add-one a.c)))) c.of_free.ensures
+returns-in-21-to-max c = packs-as (f-J _ _ _ (omega arith) c.if-c-ge-FIRST_DECK.false) c.of_process.ensures
