@@ -1,6 +1,9 @@
--- The digest of the cells, what stood where nothing was written, and digits.
+-- The digest of the cells, what stood where nothing was written, and digits; and the three plain actions by their place in a case.
 use Rattle.std.specs.Prelude.{ℕ, ◌+◌, ◌*◌, ◌/◌, ◌%◌, Bool, cond, List, eqb, ltb}
 use Rattle.std.specs.List.{fold, list_all}
+use Rattle.paper.specs.Act.{Act}
+use Rattle.paper.specs.Plain.{preserve_h0}
+use Rattle.paper.specs.Process.{J72, J74}
 
 -- "from 0, for each cell w, h becomes (h * 1000003 + w) % 1000000007" (tools/pack-vectors)
 abbrev pub prime : ℕ
@@ -29,3 +32,7 @@ glyph_of x = cond (ltb x 10) (48 + x) (87 + x)
 
 abbrev pub digit_of : ℕ → Bool → ℕ
 digit_of b first = cond first (glyph_of (b / 16)) (glyph_of (b % 16))
+
+-- demand 3: preserve, copy, erase
+abbrev pub action_at : ℕ → Act (Unit {0})
+action_at n = cond (eqb n 0) preserve_h0 (cond (eqb n 1) J74 J72)

@@ -1,4 +1,8 @@
 // The five kinds of case. Whether one was read lies in the input, of which no contract can speak.
+ghost use Rattle.std.specs.Prelude.{◌≡◌};
+ghost use Rattle.plain.specs.Numbers.{numbers, plain_on};
+ghost use Rattle.vectors.specs.Lines.{action_at};
+
 use crate::{answers, input};
 use paper::{LoadAnswer, RunAnswer, Symbol};
 use regions::Regions;
@@ -64,22 +68,31 @@ fn walk(rt: &impl Print, cells: &[u64], regions: Regions, x: Symbol) {
     answers::text(rt, b"\n");
 }
 
+// The three plain actions by their place in a case: the number is what the contract can speak of, in a program that cannot hand one in by its block.
+fn act(cells: &mut [u64], regions: Regions, action: u8) -> RunAnswer
+    ensures { numbers result cells.new ≡ plain_on (action_at action) regions cells.old }
+{
+    match action {
+        0 => plain::preserve(cells, regions),
+        1 => plain::copy(cells, regions),
+        _ => plain::erase(cells, regions),
+    }
+}
+
 // One of the three plain actions, unless one before was refused: whether it finished. Refused, it leaves the cells as they were.
-fn plainly<F: Fn(&mut [u64], Regions) -> RunAnswer>(
+fn plainly(
     rt: &impl Print,
     cells: &mut [u64],
     regions: Regions,
-    act: F,
+    action: u8,
     reached: bool,
-) -> bool
-    requires { (x : _) → F.pre act x regions }
-{
+) -> bool {
     if !reached {
         answers::text(rt, b" -");
         return false;
     }
     let before = answers::digest(cells);
-    let a = act(cells, regions);
+    let a = act(cells, regions, action);
     answers::text(rt, b" ");
     answers::number(rt, a.number() as u64);
     if a == RunAnswer::Finished {
@@ -95,9 +108,9 @@ fn plainly<F: Fn(&mut [u64], Regions) -> RunAnswer>(
 fn demand3(rt: &impl Print, cells: &mut [u64], regions: Regions) {
     let given = answers::digest(cells);
     answers::text(rt, b"D");
-    let preserved = plainly(rt, cells, regions, plain::preserve, true);
-    let copied = plainly(rt, cells, regions, plain::copy, preserved);
-    let erased = plainly(rt, cells, regions, plain::erase, copied);
+    let preserved = plainly(rt, cells, regions, 0, true);
+    let copied = plainly(rt, cells, regions, 1, preserved);
+    let erased = plainly(rt, cells, regions, 2, copied);
     if erased {
         answers::end(rt, answers::digest(cells));
         return;
@@ -151,9 +164,8 @@ fn read_run(
     let budget = input::four(head, 3);
     let room = input::pair(head, 7);
     let r = input::regions(stdin, bytes)?;
-    let store = cells.get_mut(..n)?;
-    input::cells(stdin, bytes, store)?;
-    run_store(rt, store, r, budget, out.get_mut(..room)?);
+    input::cells(stdin, bytes, cells, n)?;
+    run_store(rt, cells.get_mut(..n)?, r, budget, out.get_mut(..room)?);
     Some(())
 }
 
@@ -171,9 +183,8 @@ fn read_walk(
     };
     let n = input::three(head, 3);
     let r = input::regions(stdin, bytes)?;
-    let store = cells.get_mut(..n)?;
-    input::cells(stdin, bytes, store)?;
-    walk(rt, store, r, x);
+    input::cells(stdin, bytes, cells, n)?;
+    walk(rt, cells.get(..n)?, r, x);
     Some(())
 }
 
@@ -186,9 +197,8 @@ fn read_demand3(
 ) -> Option<()> {
     let n = input::three(input::take(stdin, bytes, 3)?, 0);
     let r = input::regions(stdin, bytes)?;
-    let store = cells.get_mut(..n)?;
-    input::cells(stdin, bytes, store)?;
-    demand3(rt, store, r);
+    input::cells(stdin, bytes, cells, n)?;
+    demand3(rt, cells.get_mut(..n)?, r);
     Some(())
 }
 

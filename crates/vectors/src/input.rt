@@ -58,10 +58,19 @@ fn cell(b: &[u8]) -> u64
     u64::from(four(b, 0)) * 4294967296 + u64::from(four(b, 4))
 }
 
-// The cells that come next, each read by itself, so that no buffer has to hold them all; none where there are fewer.
-pub(crate) fn cells(stdin: &mut impl Read, bytes: &mut [u8], cells: &mut [u64]) -> Option<()> {
-    for x in cells {
-        *x = cell(take(stdin, bytes, 8)?);
+// The n cells that come next, each read by itself, so that no buffer has to hold them all; one past `cells` is read and dropped. None where
+// there are fewer.
+pub(crate) fn cells(
+    stdin: &mut impl Read,
+    bytes: &mut [u8],
+    cells: &mut [u64],
+    n: usize,
+) -> Option<()> {
+    for c in 0..n {
+        let x = cell(take(stdin, bytes, 8)?);
+        if let Some(place) = cells.get_mut(c) {
+            *place = x;
+        }
     }
     Some(())
 }
