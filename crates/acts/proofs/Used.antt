@@ -1,5 +1,5 @@
 -- A cell that is touched, by what the code has found out of it, in the form in which `search touching` finds the proof of a way out.
-use Rattle.paper.proofs.Kit.{clash, ◌||◌, ℕ, ◌<◌, ◌≡◌, refl, ap, ◌∙◌, sym, ◌≢◌, Bool, true, false, List, [], arith, eqb, ne_eqb}
+use Rattle.paper.proofs.Kit.{clash, ◌||◌, ℕ, ◌<◌, ◌≡◌, refl, ap, ◌∙◌, sym, ◌≢◌, Bool, true, false, List, arith, eqb, ne_eqb}
 use Rattle.std.specs.Prelude.{Result, Ok, Err}
 use Rattle.paper.specs.declared.Refusal.{Refusal}
 use Rattle.paper.specs.declared.Refusal.TheVariants.{CellZero, FreeCell, OwnCell}
@@ -11,7 +11,7 @@ use Rattle.steps.specs.Follows.{Follows, seen_as}
 use Rattle.steps.specs.Follows as steps
 use Rattle.steps.proofs.Steps.{bind-same, bind-bind, then-bind}
 use Rattle.steps.proofs.Sequence.{Judged, bind, bind_err, give}
-use Rattle.undo.specs.Did.{Always, reading}
+use Rattle.undo.specs.Did.{reading}
 use Rattle.acts.specs.Named.{named_to}
 use Rattle.undo.proofs.Auto.{lines, r_peek, l-test, l-test-err, t-fails-as, t-fails-eq, t-passes, t-passes-eq}
 
@@ -51,9 +51,6 @@ module _ {B : Type 0} {K : Rest → Type 0} {s : List ℕ} {r : Result B Refusal
   pub r-term : cell_in s c ≡ x → c ≢ 0 → p ≡ is_term x → p ≡ true → Follows reading K 0 (g x) s s r → Follows reading K 0 (touch c >>= g) s s r
   r-term e z q f d = used e z (term-used x (sym q ∙ f)) d
 
-some_rest : Rest
-some_rest = record { regions = []; lines = []; room = 0 }
-
 -- a cell to be written: H3 is refused whatever it holds, any other is one that is touched
 never_done : {A : Type 0} (q : Res State Refusal A) (z : Refusal) (v : A) (t : State) → ◌≡◌ {A = Res State Refusal A}
     (elim q as (λ _. Res State Refusal A) [ done x u ↦ refused z | refused e ↦ refused e ]) (done v t) → ⊥
@@ -73,11 +70,11 @@ as-touched c n t = rw (ne_eqb c 4 n) (same (touch c t))
     same (done x u) = refl
     same (refused e) = refl
 
-module _ {A B : Type 0} {s : List ℕ} (c : ℕ) (g : Cell → Act A) (f : B → A) (n : B → Cell) where
-  pub r-tally : (r : Result B Refusal) → c ≡ 4 → Follows reading Always 0 (target c) s s (seen_as n r)
-      → Follows reading Always 0 (target c >>= g) s s (seen_as f r)
+module _ {A B : Type 0} {K : Rest → Type 0} {s : List ℕ} (c : ℕ) (g : Cell → Act A) (f : B → A) (n : B → Cell) where
+  pub r-tally : (r : Result B Refusal) → c ≡ 4 → Follows reading K 0 (target c) s s (seen_as n r)
+      → Follows reading K 0 (target c >>= g) s s (seen_as f r)
   r-tally (Err z) e d = bind_err g d
-  r-tally (Ok v) e d = absurd (H3-refused _ _ (n v) (rw e at (d.is some_rest tt)))
+  r-tally (Ok v) e d = record { is = λ w k. absurd (H3-refused _ _ (n v) (rw e at (d.is w k))); kept = tt }
 
 module _ {B : Type 0} {K : Rest → Type 0} {s : List ℕ} (c : ℕ) (g : Cell → Act B) where
   pub r-other : {r : Result B Refusal} → c ≢ 4 → Follows reading K 0 (touch c >>= g) s s r → Follows reading K 0 (target c >>= g) s s r

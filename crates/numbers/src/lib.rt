@@ -18,7 +18,7 @@ use std::cmp::Ordering;
 
 // Two terms of one sort, each in 32 bits: integers as their value + 2^31.
 #[derive(Clone, Copy)]
-enum Pair {
+pub enum Pair {
     Integers(u32, u32),
     Floats(u32, u32),
 }
